@@ -1,0 +1,2 @@
+// A rule as a sheet of rows: the record, how bytes are read into it, and what is asked of it.
+pub mod row;
