@@ -1,0 +1,4 @@
+pub mod Reading
+pub mod Sweeps
+pub mod Inner
+pub mod Judging
