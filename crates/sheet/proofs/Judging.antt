@@ -7,10 +7,10 @@ use Prim.Native.Nat.{ℕ, zero, suc, _+_, _-_, _≤_, _<_}
 use native.Mathlib.Nat.{add-zero, add-suc, suc-add}
 use native.Mathlib.Omega.{arith}
 use lib.Dec.{leb, ltb}
-use lib.ListN.{length, getD, take}
+use lib.ListN.{length, getD, take, drop}
 use Rattle.std.specs.declared.option.Option.{Option}
 use Rattle.std.specs.declared.option.Option.the-variants.{Some, None}
-use Rattle.std.proofs.shelf.Lists.{getD-append-left, getD-past, getD-take, length-take-le, ext-getD}
+use Rattle.std.proofs.shelf.Lists.{getD-append-left, getD-past, getD-take, length-take-le, take-all, ext-getD}
 use Rattle.std.proofs.shelf.Tests.{cases-eq, cases-lt, cond-true, cond-false, le-ltb, and-parts, and-from, leb-true, not-from-false, cases-bool}
 use Rattle.refusal.specs.declared.Refusal.{Refusal}
 use Rattle.refusal.specs.declared.Refusal.the-variants.{Kind, Operand, Length, Unnamed, Inner}
@@ -19,8 +19,8 @@ use Rattle.sheet.specs.declared.row.Row.{Row}
 use Rattle.sheet.specs.declared.row.Row.the-variants.{Always}
 use Rattle.sheet.specs.Rows.{operands-of, named-by, may-be-inner, row-length}
 use Rattle.sheet.specs.Rules.{all-under, in-range, lengths-of, length-of, named, row-at, Rows-right, Rows-short, Rows-named, Inner-right}
-use Rattle.sheet.specs.Bytes.{Body, sizes-right, kind-in, operands-in, row-in}
-use Rattle.sheet.specs.Loading.{operands-right, row-fault, name-fault, inner-fault, is-inner, same, Verdict, accepted, refused, or-fault, or-lowest, rows-from, judged}
+use Rattle.sheet.specs.Bytes.{Body, body-of, sizes-right, kind-in, operands-in, row-in}
+use Rattle.sheet.specs.Loading.{operands-right, row-fault, name-fault, inner-fault, is-inner, same, Verdict, accepted, refused, or-fault, or-lowest, rows-from, judged, load-result}
 use Rattle.sheet.specs.Faults.{Faultless, Lowest}
 use Rattle.sheet.specs.Steps.{Measures, All-read, Ordered}
 use Rattle.sheet.proofs.Reading.{range-lower, length-lengths, length-of-is}
@@ -101,14 +101,14 @@ module _ (b : Body) (rows : List Row) (lens : List ℕ) (few : b .count ≤ 32) 
   pub short : Rows-short (b .count) (row-in b)
   short k h = fine-row b k (a .fine k h) .short
 
-name-fine : (t : Bool) → cond t None (Some Unnamed) ≡ None → t ≡ true
+pub name-fine : (t : Bool) → cond t None (Some Unnamed) ≡ None → t ≡ true
 name-fine true h = refl
 name-fine false h = absurd (let e : _≡_ {A = ℕ} 0 1 = cc in omega arith)
 
 pub all-named : (row : ℕ → Row) (count : ℕ) → Faultless (name-fault count row) (count - 1) → Rows-named count row
 all-named row count h k lt = name-fine (named row count k) (h k (omega arith))
 
-inner-fine-says : (t u : Bool) → cond (t && not u) (Some Inner) None ≡ None → t ≡ true → u ≡ true
+pub inner-fine-says : (t u : Bool) → cond (t && not u) (Some Inner) None ≡ None → t ≡ true → u ≡ true
 inner-fine-says true true h e = refl
 inner-fine-says true false h e = absurd (let z : _≡_ {A = ℕ} 0 1 = cc in omega arith)
 inner-fine-says false u h e = absurd (let z : _≡_ {A = ℕ} 0 1 = cc in omega arith)
@@ -148,3 +148,9 @@ module _ (b : Body) (sized : sizes-right b ≡ true) where
       judged-sheet inner =
           sym (cond-true _ _ _ sized ∙ lowest-none (row-fault b) (b .count) _ fine ∙ lowest-none (name-fault (b .count) (row-in b)) (b .count - 1) _ named-fine
           ∙ lowest-none (inner-fault (b .count) (row-in b)) (b .count) _ inner)
+
+-- the bytes as load takes them apart
+pub taken-apart : (bytes : List ℕ) → 2 ≤ length bytes → judged (body-of (getD bytes 0 0) (getD bytes 1 0) (take (length bytes - 2) (drop 2 bytes))) ≡ load-result bytes
+taken-apart [] h = absurd (omega arith)
+taken-apart (facts ∷ []) h = absurd (omega arith)
+taken-apart (facts ∷ count ∷ rest) h = ap (λ r. judged (body-of facts count r)) (take-all (length (facts ∷ count ∷ rest) - 2) rest (omega arith))

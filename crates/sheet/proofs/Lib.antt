@@ -2,3 +2,6 @@ pub mod Reading
 pub mod Sweeps
 pub mod Inner
 pub mod Judging
+pub mod Writing
+pub mod Outcome
+pub mod Loads

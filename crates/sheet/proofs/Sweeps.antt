@@ -79,7 +79,7 @@ and-false : (x : Bool) → (x && false) ≡ false
 and-false true = refl
 and-false false = refl
 
-not-both : (x y : Bool) → (x ≡ true → y ≡ true) → (x && not y) ≡ false
+pub not-both : (x y : Bool) → (x ≡ true → y ≡ true) → (x && not y) ≡ false
 not-both true y h = ap not (h refl)
 not-both false y h = refl
 

@@ -1,10 +1,14 @@
 // Reading a sheet from bytes.
 ghost use mathlib.Core.Path.{_≡_};
 ghost use mathlib.Core.Bool.{true};
-ghost use Rattle.std.specs.Results.{isErr};
-ghost use Rattle.sheet.specs.Bytes.{body-of, sizes-right};
+ghost use mathlib.Core.Logic.{_↔_};
+ghost use Rattle.std.specs.Results.{isOk, isErr};
+ghost use Rattle.std.specs.declared.result.Result.the-variants.{Err};
+ghost use Rattle.sheet.specs.declared.fault.Fault.{Fault};
+ghost use Rattle.sheet.specs.Bytes.{body-of, bytes-of, sizes-right, Sheet-bytes};
+ghost use Rattle.sheet.specs.Conditions.{Refused-for};
 ghost use Rattle.sheet.specs.Loading.{judged, load-result};
-ghost use Rattle.sheet.specs.Sheets.{judged-as, verdict-of};
+ghost use Rattle.sheet.specs.Sheets.{judged-as, sheet-of, verdict-of};
 use crate::fault::Fault;
 use crate::read::read_rows;
 use crate::record::Sheet;
@@ -40,6 +44,9 @@ impl Sheet {
     pub fn load(&mut self, bytes: &[u8]) -> Result<(), Fault>
         ensures outcome { λ r. ⌜ verdict-of r (now (self .exit)) ≡ load-result (now (bytes .entry)) ⌝ }
         ensures unchanged { λ r. ⌜ (isErr r ≡ true → now (self .exit) ≡ now (self .entry)) ⌝ }
+        ensures succeeds { λ r. ⌜ isOk r ≡ true ↔ Sheet-bytes (now (bytes .entry)) ⌝ }
+        ensures same_rows { λ r. ⌜ (isOk r ≡ true → bytes-of (sheet-of (now (self .exit))) ≡ now (bytes .entry)) ⌝ }
+        ensures refuses { λ r. ⌜ ((f : Fault) → (r ≡ Err f) ↔ Refused-for (now (bytes .entry)) (f .refusal) (f .row)) ⌝ }
     {
         let [facts, rows, rest @ ..] = bytes else {
             return Err(Fault { refusal: Refusal::Sizes, row: 0 });
