@@ -5,7 +5,7 @@ ghost use Prim.Native.Nat.{ℕ, _<_, _≤_};
 ghost use lib.ListN.{getD};
 ghost use Rattle.std.specs.Options.{Cases};
 ghost use Rattle.sheet.specs.declared.row.Row.the-variants.{Always};
-ghost use Rattle.sheet.specs.Rows.{kind-of, operands-of, named-by, made-inner-by, row-length, may-be-inner};
+ghost use Rattle.sheet.specs.Rows.{operands-of, named-by, row-length, may-be-inner};
 ghost use Rattle.sheet.specs.Rules.{in-range, has, all-under};
 ghost use Rattle.sheet.specs.Bytes.{kinds};
 ghost use Rattle.sheet.specs.Loading.{passes};
@@ -29,7 +29,7 @@ pub enum Row {
 
 impl Row {
     // The row of a kind with the operands p, q and r, if there is such a kind.
-    pub fn of_kind(kind: u8, p: u8, q: u8, r: u8) -> Option<Row>
+    pub(crate) fn of_kind(kind: u8, p: u8, q: u8, r: u8) -> Option<Row>
         ensures { λ o. ⌜ Cases o (8 ≤ kind) (λ row. (kind < 8) × (row ≡ getD (kinds p q r) kind Always)) ⌝ }
     {
         match kind {
@@ -45,22 +45,7 @@ impl Row {
         }
     }
 
-    pub fn kind(self) -> u8
-        ensures { λ r. ⌜ r ≡ kind-of self ⌝ }
-    {
-        match self {
-            Row::Always => 0,
-            Row::Hold { .. } => 1,
-            Row::HoldOff { .. } => 2,
-            Row::Both { .. } => 3,
-            Row::Either { .. } => 4,
-            Row::Not { .. } => 5,
-            Row::Then { .. } => 6,
-            Row::Within { .. } => 7,
-        }
-    }
-
-    pub fn operands(self) -> [u8; 3]
+    pub(crate) fn operands(self) -> [u8; 3]
         ensures { λ r. ⌜ r ≡ operands-of self ⌝ }
     {
         match self {
@@ -73,7 +58,7 @@ impl Row {
     }
 
     // Whether it may be row `at` of a sheet of so many facts.
-    pub fn in_range(self, facts: u8, at: u8) -> bool
+    pub(crate) fn in_range(self, facts: u8, at: u8) -> bool
         ensures { λ r. ⌜ r ≡ in-range facts at self ⌝ }
     {
         match self {
