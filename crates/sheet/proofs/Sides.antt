@@ -9,7 +9,7 @@ use lib.Dec.{eqb, ltb}
 use lib.ListN.{length, getD, set, take, replicate}
 use Rattle.std.proofs.shelf.Lists.{getD-take, length-take-le, getD-set-same, getD-set-other}
 use Rattle.std.specs.Orderings.{Decides}
-use Rattle.std.proofs.shelf.Tests.{or-cases, or-left, or-right, or-from, and-parts, and-from, and-right, cases-eq, cases-lt, cases-bool, both-ways, false≢true, cond-true, cond-false, eqb-true, eq-eqb, lt-ltb, ltb-true}
+use Rattle.std.proofs.shelf.Tests.{or-cases, or-left, or-right, and-parts, and-from, cases-eq, cases-lt, cases-bool, both-ways, false≢true, cond-true, cond-false, eqb-true, eq-eqb, lt-ltb, ltb-true}
 use Rattle.sheet.specs.declared.row.Row.{Row}
 use Rattle.sheet.specs.declared.row.Row.the-variants.{Always, Hold, HoldOff, Both, Either, Not, Then, Within}
 use Rattle.sheet.specs.declared.record.Sheet.{Sheet}
@@ -17,7 +17,8 @@ use Rattle.sheet.specs.declared.record.sides.Side.{Side}
 use Rattle.sheet.specs.Rows.{facts-of, named-by, window-right}
 use Rattle.sheet.specs.Rules.{has, all-under, row-at}
 use Rattle.sheet.specs.Sheets.{sheet-of}
-use Rattle.sheet.specs.Sides.{Chain, start, turn, along, Reaches, by-hold, by-hold-off, turns, Handed-on, Facts-reached}
+use Rattle.sheet.specs.Sides.{Chain, start, turn, along, Reaches, by-hold, by-hold-off}
+use Rattle.sheet.specs.SideSteps.{turns, Handed-on, Facts-reached}
 use Rattle.sheet.proofs.Reading.{getD-same, range-lower}
 use Rattle.sheet.proofs.Sweeps.{has-under}
 
@@ -137,56 +138,69 @@ module _ (row : ℕ → Row) (last : ℕ) (Done : ℕ → Bool → Type 0) (i : 
 
   module _ (s : Sweep row last Done rows facts) (lower : all-under i (named-by (row i)) ≡ true) (above : (j : ℕ) (t : Bool) → Done j t → i ≤ j)
       (rows-raised : Raises rows rows′ p (rows p i) (turns (row i)) (named-by (row i))) (facts-raised : Raises facts facts′ p (rows p i) (turns (row i)) (facts-of (row i))) where
-    row-is : (t : Bool) (k : ℕ) → rows′ t k ≡ (rows t k || ((rows p i && on p t (turns (row i))) && has (named-by (row i)) k))
+    -- whether the row hands anything on to side t
+    abbrev sent : Bool → Bool
+    sent t = rows p i && on p t (turns (row i))
+
+    sent-says : (t : Bool) → sent t ≡ true → (rows p i ≡ true) × (after (row i) p ≡ t)
+    sent-says t e = let both = and-parts (rows p i) (on p t (turns (row i))) e in (both .0, on-says p t (turns (row i)) (both .1))
+
+    sent-after : rows p i ≡ true → sent (after (row i) p) ≡ true
+    sent-after e = and-from (rows p i) (on p (after (row i) p) (turns (row i))) e (on-after p (turns (row i)))
+
+    row-is : (t : Bool) (k : ℕ) → rows′ t k ≡ (rows t k || (sent t && has (named-by (row i)) k))
     row-is = raised rows rows′ p (rows p i) (turns (row i)) (named-by (row i)) rows-raised
 
-    fact-is : (t : Bool) (f : ℕ) → facts′ t f ≡ (facts t f || ((rows p i && on p t (turns (row i))) && has (facts-of (row i)) f))
+    fact-is : (t : Bool) (f : ℕ) → facts′ t f ≡ (facts t f || (sent t && has (facts-of (row i)) f))
     fact-is = raised facts facts′ p (rows p i) (turns (row i)) (facts-of (row i)) facts-raised
 
     -- the row names no row that is done, nor itself
     same : (j : ℕ) (t : Bool) → i ≤ j → rows′ t j ≡ true → rows t j ≡ true
     same j t le e =
         ⊎-elim (λ h. h)
-        (λ h. absurd (both-ways (has (named-by (row i)) j) (has-under i j (named-by (row i)) lower le) (and-parts (rows p i && on p t (turns (row i))) (has (named-by (row i)) j) h .1)))
-        (or-cases (rows t j) ((rows p i && on p t (turns (row i))) && has (named-by (row i)) j) (sym (row-is t j) ∙ e))
+        (λ h. absurd (both-ways (has (named-by (row i)) j) (has-under i j (named-by (row i)) lower le) (and-parts (sent t) (has (named-by (row i)) j) h .1)))
+        (or-cases (rows t j) (sent t && has (named-by (row i)) j) (sym (row-is t j) ∙ e))
 
-    -- what the row raises itself
-    handed : (x h : Bool) → rows p i ≡ true → h ≡ true → (x || ((rows p i && on p (after (row i) p) (turns (row i))) && h)) ≡ true
-    handed x h r e =
-        or-right x ((rows p i && on p (after (row i) p) (turns (row i))) && h)
-        (and-from (rows p i && on p (after (row i) p) (turns (row i))) h (and-from (rows p i) (on p (after (row i) p) (turns (row i))) r (on-after p (turns (row i)))) e)
+    row-here : (k : ℕ) → rows′ p i ≡ true → has (named-by (row i)) k ≡ true → rows′ (after (row i) p) k ≡ true
+    row-here k e h =
+        row-is (after (row i) p) k
+        ∙ or-right (rows (after (row i) p) k) (sent (after (row i) p) && has (named-by (row i)) k) (and-from (sent (after (row i) p)) (has (named-by (row i)) k) (sent-after (same i p (omega arith) e)) h)
 
-    split : (t h : Bool) → ((rows p i && on p t (turns (row i))) && h) ≡ true → (rows p i ≡ true) × (after (row i) p ≡ t) × (h ≡ true)
-    split t h e =
-        let outer = and-parts (rows p i && on p t (turns (row i))) h e in
-        let inner = and-parts (rows p i) (on p t (turns (row i))) (outer .0) in
-        (inner .0, on-says p t (turns (row i)) (inner .1), outer .1)
+    fact-here : (f : ℕ) → rows′ p i ≡ true → has (facts-of (row i)) f ≡ true → facts′ (after (row i) p) f ≡ true
+    fact-here f e h =
+        fact-is (after (row i) p) f
+        ∙ or-right (facts (after (row i) p) f) (sent (after (row i) p) && has (facts-of (row i)) f) (and-from (sent (after (row i) p)) (has (facts-of (row i)) f) (sent-after (same i p (omega arith) e)) h)
+
+    at-here : (P : ℕ → Bool → Type 0) {j : ℕ} {t : Bool} → P i p → (j ≡ i) × (t ≡ p) → P j t
+    at-here P {j} {t} h e = subst (λ x. P x t) (sym (e .0)) (subst (P i) (sym (e .1)) h)
 
     pub visited : Sweep row last Here rows′ facts′
     visited = record {
       first = row-is false last ∙ or-left (rows false last) _ (s .first);
       row-sound = λ t k e.
           ⊎-elim (s .row-sound t k)
-          (λ h. let q = split t (has (named-by (row i)) k) h in subst (Chain row last k) (q .1) (chain-on row last i k p (s .row-sound p i (q .0)) (q .2)))
-          (or-cases (rows t k) ((rows p i && on p t (turns (row i))) && has (named-by (row i)) k) (sym (row-is t k) ∙ e));
+          (λ h.
+          let both = and-parts (sent t) (has (named-by (row i)) k) h in
+          let q = sent-says t (both .0) in
+          subst (Chain row last k) (q .1) (chain-on row last i k p (s .row-sound p i (q .0)) (both .1)))
+          (or-cases (rows t k) (sent t && has (named-by (row i)) k) (sym (row-is t k) ∙ e));
       fact-sound = λ t f e.
           ⊎-elim (s .fact-sound t f)
-          (λ h. let q = split t (has (facts-of (row i)) f) h in subst (Reaches row last f) (q .1) (reach-on row last i f p (s .row-sound p i (q .0)) (q .2)))
-          (or-cases (facts t f) ((rows p i && on p t (turns (row i))) && has (facts-of (row i)) f) (sym (fact-is t f) ∙ e));
-      row-on = λ j t d e k h. elim d [
-          inl done ↦ row-is (after (row j) t) k ∙ or-left (rows (after (row j) t) k) _ (s .row-on j t done (same j t (above j t done) e) k h)
-        | inr at ↦
-            let now : rows p i ≡ true = same i p (omega arith) (ap (λ x. rows′ x i) (sym (at .1)) ∙ ap (rows′ t) (sym (at .0)) ∙ e) in
-            let names : has (named-by (row i)) k ≡ true = ap (λ x. has (named-by (row x)) k) (sym (at .0)) ∙ h in
-            ap (λ x. rows′ (after (row x) t) k) (at .0) ∙ ap (λ x. rows′ (after (row i) x) k) (at .1) ∙ row-is (after (row i) p) k ∙ handed (rows (after (row i) p) k) (has (named-by (row i)) k) now names
-        ];
-      fact-on = λ j t d e f h. elim d [
-          inl done ↦ fact-is (after (row j) t) f ∙ or-left (facts (after (row j) t) f) _ (s .fact-on j t done (same j t (above j t done) e) f h)
-        | inr at ↦
-            let now : rows p i ≡ true = same i p (omega arith) (ap (λ x. rows′ x i) (sym (at .1)) ∙ ap (rows′ t) (sym (at .0)) ∙ e) in
-            let reads : has (facts-of (row i)) f ≡ true = ap (λ x. has (facts-of (row x)) f) (sym (at .0)) ∙ h in
-            ap (λ x. facts′ (after (row x) t) f) (at .0) ∙ ap (λ x. facts′ (after (row i) x) f) (at .1) ∙ fact-is (after (row i) p) f ∙ handed (facts (after (row i) p) f) (has (facts-of (row i)) f) now reads
-        ];
+          (λ h.
+          let both = and-parts (sent t) (has (facts-of (row i)) f) h in
+          let q = sent-says t (both .0) in
+          subst (Reaches row last f) (q .1) (reach-on row last i f p (s .row-sound p i (q .0)) (both .1)))
+          (or-cases (facts t f) (sent t && has (facts-of (row i)) f) (sym (fact-is t f) ∙ e));
+      row-on = λ j t d e k h.
+          ⊎-elim
+          (λ done. row-is (after (row j) t) k ∙ or-left (rows (after (row j) t) k) _ (s .row-on j t done (same j t (above j t done) e) k h))
+          (λ at. at-here (λ x y. rows′ y x ≡ true → has (named-by (row x)) k ≡ true → rows′ (after (row x) y) k ≡ true) (row-here k) at e h)
+          d;
+      fact-on = λ j t d e f h.
+          ⊎-elim
+          (λ done. fact-is (after (row j) t) f ∙ or-left (facts (after (row j) t) f) _ (s .fact-on j t done (same j t (above j t done) e) f h))
+          (λ at. at-here (λ x y. rows′ y x ≡ true → has (facts-of (row x)) f ≡ true → facts′ (after (row x) y) f ≡ true) (fact-here f) at e h)
+          d;
     }
 
 -- Where all rows are done, all that chains reach is raised.
@@ -291,10 +305,10 @@ module _ (s : Sheet) where
         let Done : ℕ → Bool → Type 0 = λ j _. (suc i ≤ j) × (j < s .count) in
         let lower = names-lower i within in
         let mid = visited rows-of last-of Done i false (flags (a .rows) (b .rows)) (flags (a′ .rows) (b′ .rows)) (flags (a .facts) (b .facts)) (flags (a′ .facts) (b′ .facts))
-            before lower (λ j t d. omega (arith, d .0)) (plain .same-rows, plain .other-rows) (plain .same-facts, plain .other-facts) in
+        before lower (λ j t d. omega (arith, d .0)) (plain .same-rows, plain .other-rows) (plain .same-facts, plain .other-facts) in
         let Mid : ℕ → Bool → Type 0 = λ j t. Done j t ⊎ ((j ≡ i) × (t ≡ false)) in
         let end = visited rows-of last-of Mid i true (flags (a′ .rows) (b′ .rows)) (flags (a″ .rows) (b″ .rows)) (flags (a′ .facts) (b′ .facts)) (flags (a″ .facts) (b″ .facts))
-            mid lower (λ j t d. ⊎-elim (λ e. omega (arith, e .0)) (λ e. omega (arith, e .0)) d) (turned .same-rows, turned .other-rows) (turned .same-facts, turned .other-facts) in
+        mid lower (λ j t d. ⊎-elim (λ e. omega (arith, e .0)) (λ e. omega (arith, e .0)) d) (turned .same-rows, turned .other-rows) (turned .same-facts, turned .other-facts) in
         weaken rows-of last-of (λ j t. Mid j t ⊎ ((j ≡ i) × (t ≡ true))) (λ j _. (i ≤ j) × (j < s .count)) _ _
         (λ j t d. ⊎-elim (λ same. ⊎-elim (λ e. inr (same, e)) (λ e. inl (inr (same, e))) (cases-bool t)) (λ other. inl (inl (omega (arith, other, d .0), d .1))) (cases-eq j i))
         end

@@ -1,5 +1,5 @@
-// Whether some fact is reached both plain and turned, found in one sweep from the last row down: by
-// the time that a row is reached, every row that could name it has been passed.
+// Whether a sheet reaches some fact both plain and turned, found in one sweep from the last row down:
+// by the time that a row is come to, every row that could name it has been passed.
 ghost use mathlib.Core.Path.{_≡_};
 ghost use mathlib.Core.Bool.{true, false};
 ghost use Prim.Native.Nat.{_<_};
@@ -8,12 +8,13 @@ ghost use Rattle.std.specs.Orderings.{Decides};
 ghost use Rattle.sheet.specs.Rows.{facts-of, named-by};
 ghost use Rattle.sheet.specs.Rules.{all-under};
 ghost use Rattle.sheet.specs.Sheets.{sheet-of};
-ghost use Rattle.sheet.specs.Sides.{One-sided-sheet, Handed-on, Facts-reached};
+ghost use Rattle.sheet.specs.Sides.{One-sided};
+ghost use Rattle.sheet.specs.SideSteps.{Handed-on, Facts-reached};
 use crate::record::Sheet;
 use crate::row::Row;
 
-// One side: the rows under an even number of nots and the facts reached plain, or the rows under
-// an odd number of nots and the facts reached turned.
+// One of two sides: the rows reached under an even number of nots, with the facts reached plain; or
+// the rows reached under an odd number, with the facts reached turned.
 #[derive(Clone, Copy)]
 struct Side {
     rows: [bool; 32],
@@ -21,8 +22,8 @@ struct Side {
 }
 
 impl Row {
-    // Where this row, row `at`, is on the one side, raises what it names or reads there; or on the
-    // other side, if it turns that.
+    // Raises what this row, row `at`, names and reads, if it is itself raised on the side `same`: on
+    // that side, or on the other if it turns what it names or reads.
     fn hand_on(self, at: u8, same: &mut Side, other: &mut Side)
         requires place { ⌜ at < 32 ⌝ }
         requires rows { ⌜ all-under at (named-by self) ≡ true ⌝ }
@@ -46,7 +47,10 @@ impl Sheet {
     fn facts_reached(&self) -> ([bool; 16], [bool; 16])
         ensures { λ r. ⌜ Facts-reached (sheet-of (now (self .entry))) (r .0) (r .1) ⌝ }
     {
-        let mut plain = Side { rows: [false; 32], facts: [false; 16] };
+        let mut plain = Side {
+            rows: [false; 32],
+            facts: [false; 16],
+        };
         let mut turned = plain;
         plain.rows[self.count as usize - 1] = true;
         for k in (0..self.count).rev() {
@@ -59,7 +63,7 @@ impl Sheet {
 
     // Whether no fact is reached both plain and turned, along any chain of naming from the last row.
     pub fn sided(&self) -> bool
-        ensures { λ r. ⌜ Decides r (One-sided-sheet (sheet-of (now (self .entry)))) ⌝ }
+        ensures { λ r. ⌜ Decides r (One-sided (sheet-of (now (self .entry)))) ⌝ }
     {
         let (plain, turned) = self.facts_reached();
         for fact in 0..16 {

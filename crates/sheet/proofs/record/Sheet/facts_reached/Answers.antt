@@ -3,7 +3,7 @@ use mathlib.Core.Path.{_≡_, subst, sym}
 use mathlib.Core.Bool.{false}
 use Prim.Native.Nat.{suc, _-_, _<_}
 use lib.ListN.{getD}
-use Rattle.sheet.specs.Sides.{Handed-on}
+use Rattle.sheet.specs.SideSteps.{Handed-on}
 use Rattle.sheet.proofs.Sides.{Swept, swept-start, swept-more, swept-done, row-is-read, read-lower, read-few}
 use Rattle.sheet.proofs.record.Sheet.facts_reached.Needs as need
 

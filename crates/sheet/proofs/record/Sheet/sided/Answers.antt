@@ -9,8 +9,8 @@ pub loop-fact-again : need.loop-fact-again
 loop-fact-again c =
     below-more _ _ (c .loop-fact .inv)
     (λ plain turned. elim (c .else-plain-fact .came) [
-      else-plain-fact·by·then-plain-fact·else-turned-fact w ↦ both-ways _ (w .if-turned-fact .left) turned
-    | else-plain-fact·by·else-plain-fact w ↦ both-ways _ (w .if-plain-fact .left) plain
+      | else-plain-fact·by·then-plain-fact·else-turned-fact w ↦ both-ways _ (w .if-turned-fact .left) turned
+      | else-plain-fact·by·else-plain-fact w ↦ both-ways _ (w .if-plain-fact .left) plain
     ])
 
 pub returns : need.returns
