@@ -1,5 +1,5 @@
 pub mod Reading
 pub mod Sweeps
+pub mod Sides
 pub mod Inner
 pub mod Judging
-pub mod Sides
