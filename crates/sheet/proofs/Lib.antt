@@ -1,5 +1,6 @@
 pub mod Reading
 pub mod Sweeps
+pub mod Sides
 pub mod Inner
 pub mod Judging
 pub mod Writing

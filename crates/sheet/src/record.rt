@@ -6,6 +6,7 @@ ghost use Rattle.sheet.specs.Rules.{Rows-right, Rows-short, Rows-named, Inner-
 use crate::row::Row;
 
 mod load;
+mod sides;
 mod view;
 
 #[derive(Clone, Copy)]
