@@ -32,7 +32,7 @@ abbrev pub state-text : ℕ → ℕ → List ℕ
 state-text low high = cond (eqb low high) (codes "shut") (codes "open")
 
 -- CCC LLLL HHHH open, or shut
-abbrev pub line-text : ℕ → ℕ → ℕ → List ℕ
+unfoldable pub line-text : ℕ → ℕ → ℕ → List ℕ
 line-text count low high = three-digits count ++ (codes " " ++ (four-hex low ++ (codes " " ++ (four-hex high ++ (codes " " ++ (state-text low high ++ codes "\n"))))))
 
 abbrev pub Examples : Type 0

@@ -54,6 +54,31 @@ fn state(low: u16, high: u16) -> [u8; 4]
     if low == high { *b"shut" } else { *b"open" }
 }
 
+// `refused NN RR` as a line.
+fn notice_bytes(number: u8, row: u8) -> [u8; 14]
+    requires { ⌜ number < 100 ⌝ ∗ ⌜ row < 100 ⌝ }
+    ensures { λ r. ⌜ r ≡ notice-text number row ⌝ }
+{
+    let mut text = *b"refused 00 00\n";
+    text[8..10].copy_from_slice(&two_decimal(number));
+    text[11..13].copy_from_slice(&two_decimal(row));
+    text
+}
+
+// `CCC LLLL HHHH open` or `CCC LLLL HHHH shut` as a line.
+fn line_bytes(count: u16, low: u16, high: u16) -> [u8; 19]
+    requires { ⌜ count < 1000 ⌝ }
+    ensures text { λ r. ⌜ r ≡ line-text count low high ⌝ }
+    ensures size { λ _. ⌜ length (line-text count low high) ≡ 19 ⌝ }
+{
+    let mut text = *b"000 0000 0000 open\n";
+    text[0..3].copy_from_slice(&three_decimal(count));
+    text[4..8].copy_from_slice(&four_hexadecimal(low));
+    text[9..13].copy_from_slice(&four_hexadecimal(high));
+    text[14..18].copy_from_slice(&state(low, high));
+    text
+}
+
 // Writes a text to the front of the place, if it fits in there.
 fn write(place: &mut [u8], text: &[u8]) -> Result<usize, Refusal>
     ensures { λ r. ⌜ Written-into (now (text .entry)) (length (now (text .entry)) ≤ length (now (place .entry))) (now (place .entry)) (now (place .exit)) r ⌝ }
@@ -72,10 +97,7 @@ pub fn notice(place: &mut [u8], number: u8, row: u8) -> Result<usize, Refusal>
     if number > 99 || row > 99 {
         return Err(Refusal::Place);
     }
-    let mut text = *b"refused 00 00\n";
-    text[8..10].copy_from_slice(&two_decimal(number));
-    text[11..13].copy_from_slice(&two_decimal(row));
-    write(place, &text)
+    write(place, &notice_bytes(number, row))
 }
 
 // Writes `CCC LLLL HHHH open` as a line: the accepted count, and its low and its high end in
@@ -86,16 +108,11 @@ pub fn line(place: &mut [u8], count: u16, low: u16, high: u16) -> Result<usize, 
     if count > 256 {
         return Err(Refusal::Place);
     }
-    let mut text = *b"000 0000 0000 open\n";
-    text[0..3].copy_from_slice(&three_decimal(count));
-    text[4..8].copy_from_slice(&four_hexadecimal(low));
-    text[9..13].copy_from_slice(&four_hexadecimal(high));
-    text[14..18].copy_from_slice(&state(low, high));
-    write(place, &text)
+    write(place, &line_bytes(count, low, high))
 }
 
 // The texts at examples, that each has one size, and that its digits read back as the numbers.
-pub fn texts_stand()
+fn texts_stand()
     ensures examples { λ _. ⌜ Examples ⌝ }
     ensures sizes { λ _. ⌜ Sizes ⌝ }
     ensures read_back { λ _. ⌜ Read-back ⌝ }
