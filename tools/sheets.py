@@ -265,6 +265,9 @@ def worked():
         (b"", 256),
         (b"\x01", 256),
         (b"\x01\x00", 256),
+        (packed(1, deep(33, BOTH)), 256),
+        (packed(0, [(ALWAYS, (0, 0, 0))]), 256),
+        (packed(17, [(ALWAYS, (0, 0, 0))]), 256),
         (packed(1, [(ALWAYS, (0, 0, 0))]), 0),
         (packed(1, [(NOT, (0, 0, 0))]), 768),
         (packed(1, [(8, (0, 0, 0))]), 512),
@@ -274,6 +277,7 @@ def worked():
         (packed(1, [(HOLD, (0, 0, 0)), (NOT, (0, 0, 0)), (THEN, (0, 1, 0))]), 0),
         (packed(1, [(HOLD, (0, 0, 0)), (NOT, (0, 0, 0)), (THEN, (1, 0, 0))]), 1537),
         (packed(1, [(HOLD, (0, 0, 0)), (NOT, (0, 0, 0)), (THEN, (0, 1, 0)), (WITHIN, (0, 9, 2))]), 1537),
+        (packed(1, deep(30, BOTH) + [(NOT, (29, 0, 0)), (WITHIN, (0, 0, 30))]), 1566),
         # a hold's number and a within's a and b name no row
         (packed(2, [(ALWAYS, (0, 0, 0)), (HOLD, (0, 0, 0)), (NOT, (1, 0, 0))]), 1280),
         (packed(2, [(ALWAYS, (0, 0, 0)), (HOLD, (0, 0, 0)), (WITHIN, (0, 1, 1))]), 1280),
