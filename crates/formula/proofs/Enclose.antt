@@ -1,4 +1,4 @@
--- Grades worked in spans enclose the grades that they stand for, and what is known of a take narrows as it is fed.
+-- Grades worked in spans enclose the grades that they stand for.
 use mathlib.Core.Path.{_≡_, refl, sym, _∙_, ap, subst}
 use mathlib.Core.Bool.{true, false, cond}
 use Prim.Native.Nat.{ℕ, _+_, _≤_, _<_}
@@ -7,7 +7,6 @@ use Rattle.grade.specs.Lattice.{Lattice, Lawful}
 use Rattle.formula.specs.Formula.{Formula, horizon}
 use Rattle.formula.specs.Grades.{Trace, grade}
 use Rattle.formula.specs.Spans.{Span, spans, exact, Encloses, Inside}
-use Rattle.formula.specs.Known.{known, unknown, Agree}
 use Rattle.formula.proofs.Related.{related}
 use Rattle.formula.proofs.Carried.{carried-exact, local}
 use Rattle.formula.proofs.Order.{inside-kept}

@@ -1,7 +1,7 @@
 -- What the operations of two lattices keep, the grades of every formula keep. This one induction over formulas is behind
 -- the translations, the spans and the reached ends. Assumes nothing, not even the laws of a lattice.
 use mathlib.Core.Path.{_≡_, refl}
-use mathlib.Core.Bool.{Bool, true, false, _||_, false≢true}
+use mathlib.Core.Bool.{Bool, true, false}
 use Prim.Native.Nat.{ℕ, zero, suc, _+_, _≤_, _<_}
 use native.Mathlib.Omega.{arith}
 use lib.Dec.{eqb}
@@ -10,6 +10,7 @@ use Rattle.grade.specs.Lattice.{Lattice}
 use Rattle.formula.specs.Formula.{Formula, always, hold, hold-off, both, either, not, then, within, horizon}
 use Rattle.formula.specs.Grades.{Trace, meet-over, join-over, grade}
 use Rattle.formula.specs.Sides.{reaches}
+use Rattle.formula.proofs.YesNo.{or-left, or-right}
 
 -- Values of l and m are compared by P, and where a flip stands between them and the whole, by N.
 pub record Keeps {V W : Type 0} (l : Lattice V) (m : Lattice W) (P N : V → W → Type 0) : Type 0 where
@@ -23,14 +24,6 @@ pub record Keeps {V W : Type 0} (l : Lattice V) (m : Lattice W) (P N : V → W �
 pub record Alike {V W : Type 0} (P N : V → W → Type 0) (w : Trace V) (w′ : Trace W) (φ : Formula) (s : ℕ) : Type 0 where
   pub plain : (t f : ℕ) → reaches false φ f ≡ true → s ≤ t → t ≤ s + horizon φ → P (w t f) (w′ t f)
   pub turned : (t f : ℕ) → reaches true φ f ≡ true → s ≤ t → t ≤ s + horizon φ → N (w t f) (w′ t f)
-
-or-left : (a b : Bool) → a ≡ true → (a || b) ≡ true
-or-left true b e = refl
-or-left false b e = absurd (false≢true e)
-
-or-right : (a b : Bool) → b ≡ true → (a || b) ≡ true
-or-right true b e = refl
-or-right false b e = e
 
 itself : (f : ℕ) → eqb f f ≡ true
 itself f = decides-eqb f f .1 refl

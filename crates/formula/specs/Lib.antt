@@ -6,3 +6,4 @@ pub mod Known
 pub mod Sides
 pub mod Translations
 pub mod Neighbours
+pub mod Laws
