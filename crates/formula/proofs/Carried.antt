@@ -1,26 +1,26 @@
 -- Translations carry grades, and a grade rests on the frames up to the horizon alone. Assumes nothing.
-use mathlib.Core.Path.{_≡_, refl, sym, _∙_, ap, ap₂}
-use mathlib.Core.Bool.{true, false}
+use mathlib.Core.Path.{_≡_, refl, _∙_, ap, ap₂}
 use Prim.Native.Nat.{ℕ, _+_, _≤_}
 use Rattle.grade.specs.Lattice.{Lattice}
 use Rattle.formula.specs.Formula.{Formula, horizon}
 use Rattle.formula.specs.Grades.{Trace, grade}
 use Rattle.formula.specs.Spans.{Span, spans, exact}
-use Rattle.formula.specs.Translations.{Homomorphism, both-ends}
+use Rattle.formula.specs.Translations.{Carries, by-ends}
+use Rattle.formula.specs.Laws.{Translations-carry}
 use Rattle.formula.proofs.Related.{Keeps, related}
 
-module _ {V W : Type 0} {l : Lattice V} {m : Lattice W} {h : V → W} (hom : Homomorphism l m h) where
+module _ {V W : Type 0} {l : Lattice V} {m : Lattice W} {h : V → W} (hom : Carries l m h) where
   -- y is what x is translated to
   abbrev Becomes : V → W → Type 0
   Becomes x y = h x ≡ y
 
   becomes-kept : Keeps l m Becomes Becomes
   becomes-kept = record {
-    top = hom .keeps-top;
-    bottom = hom .keeps-bottom;
-    meet = λ x y x′ y′ p q. hom .keeps-meet x y ∙ ap₂ (m .meet) p q;
-    join = λ x y x′ y′ p q. hom .keeps-join x y ∙ ap₂ (m .join) p q;
-    flip = λ x x′ p. hom .keeps-flip x ∙ ap (m .flip) p;
+    top = hom .top;
+    bottom = hom .bottom;
+    meet = λ x y x′ y′ p q. hom .meet x y ∙ ap₂ (m .meet) p q;
+    join = λ x y x′ y′ p q. hom .join x y ∙ ap₂ (m .join) p q;
+    flip = λ x x′ p. hom .flip x ∙ ap (m .flip) p;
   }
 
   pub carried : (w : Trace V) (φ : Formula) (s : ℕ) → h (grade l w φ s) ≡ grade m (λ t f. h (w t f)) φ s
@@ -29,22 +29,21 @@ module _ {V W : Type 0} {l : Lattice V} {m : Lattice W} {h : V → W} (hom : Hom
       (record { plain = λ t f _ _ _. refl; turned = λ t f _ _ _. refl })
 
   -- the same map on both ends of a span
-  ends-kept : Homomorphism (spans l) (spans m) (both-ends h)
+  ends-kept : Carries (spans l) (spans m) (by-ends h)
   ends-kept = record {
-    keeps-top = λ i. record { low = hom .keeps-top i; high = hom .keeps-top i };
-    keeps-bottom = λ i. record { low = hom .keeps-bottom i; high = hom .keeps-bottom i };
-    keeps-meet = λ x y i. record { low = hom .keeps-meet (x .low) (y .low) i; high = hom .keeps-meet (x .high) (y .high) i };
-    keeps-join = λ x y i. record { low = hom .keeps-join (x .low) (y .low) i; high = hom .keeps-join (x .high) (y .high) i };
-    keeps-flip = λ x i. record { low = hom .keeps-flip (x .high) i; high = hom .keeps-flip (x .low) i };
+    top = λ i. record { low = hom .top i; high = hom .top i };
+    bottom = λ i. record { low = hom .bottom i; high = hom .bottom i };
+    meet = λ x y i. record { low = hom .meet (x .low) (y .low) i; high = hom .meet (x .high) (y .high) i };
+    join = λ x y i. record { low = hom .join (x .low) (y .low) i; high = hom .join (x .high) (y .high) i };
+    flip = λ x i. record { low = hom .flip (x .high) i; high = hom .flip (x .low) i };
   }
 
 -- a value that is known, as a span
-exact-kept : {V : Type 0} (l : Lattice V) → Homomorphism l (spans l) exact
-exact-kept l = record { keeps-top = refl; keeps-bottom = refl; keeps-meet = λ x y. refl; keeps-join = λ x y. refl; keeps-flip = λ x. refl }
+exact-kept : {V : Type 0} (l : Lattice V) → Carries l (spans l) exact
+exact-kept l = record { top = refl; bottom = refl; meet = λ x y. refl; join = λ x y. refl; flip = λ x. refl }
 
-pub carried-spans : {V W : Type 0} {l : Lattice V} {m : Lattice W} {h : V → W} → Homomorphism l m h → (k : Trace (Span V)) (φ : Formula) (s : ℕ)
-    → both-ends h (grade (spans l) k φ s) ≡ grade (spans m) (λ t f. both-ends h (k t f)) φ s
-carried-spans hom k φ s = carried (ends-kept hom) k φ s
+pub translations-carry : {V W : Type 0} (l : Lattice V) (m : Lattice W) → Translations-carry l m
+translations-carry l m h hom = record { values = carried hom; ends = carried (ends-kept hom) }
 
 pub carried-exact : {V : Type 0} (l : Lattice V) (w : Trace V) (φ : Formula) (s : ℕ) → exact (grade l w φ s) ≡ grade (spans l) (λ t f. exact (w t f)) φ s
 carried-exact l w φ s = carried (exact-kept l) w φ s

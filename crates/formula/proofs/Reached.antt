@@ -7,8 +7,8 @@ use borrow.Author.Tests.{lt-ltb}
 use Rattle.grade.specs.Lattice.{Lattice}
 use Rattle.formula.specs.Formula.{Formula}
 use Rattle.formula.specs.Grades.{Trace, grade}
-use Rattle.formula.specs.Spans.{Span, spans, exact}
-use Rattle.formula.specs.Known.{known, unknown, Agree}
+use Rattle.formula.specs.Spans.{Span, spans, exact, unknown}
+use Rattle.formula.specs.Known.{known, Agree}
 use Rattle.formula.specs.Sides.{reaches, One-sided, filled, worst, best}
 use Rattle.formula.specs.Laws.{Reached}
 use Rattle.formula.proofs.Related.{Keeps, related}
@@ -55,13 +55,13 @@ module _ {V : Type 0} (l : Lattice V) where
   pub reached : (φ : Formula) (n : ℕ) (w : Trace V) → One-sided φ → Reached l φ n w
   reached φ n w one = record {
     worst-agrees = filled-agrees n w (reaches true φ);
-    worst-reached = related (spans l) l Low High low-kept high-kept (known l n w) (worst l n w φ) φ 0 (record {
+    worst-is-low = sym (related (spans l) l Low High low-kept high-kept (known l n w) (worst l n w φ) φ 0 (record {
       plain = λ t f r _ _. unraised (w t f) (ltb t n) (reaches true φ f) (one f r);
       turned = λ t f r _ _. raised (w t f) (ltb t n) (reaches true φ f) r;
-    });
+    }));
     best-agrees = filled-agrees n w (reaches false φ);
-    best-reached = related (spans l) l High Low high-kept low-kept (known l n w) (best l n w φ) φ 0 (record {
+    best-is-high = sym (related (spans l) l High Low high-kept low-kept (known l n w) (best l n w φ) φ 0 (record {
       plain = λ t f r _ _. raised (w t f) (ltb t n) (reaches false φ f) r;
       turned = λ t f r _ _. unraised (w t f) (ltb t n) (reaches false φ f) (λ p. one f p r);
-    });
+    }));
   }

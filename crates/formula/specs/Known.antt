@@ -5,16 +5,12 @@ use Prim.Native.Nat.{ℕ, _<_}
 use lib.Dec.{ltb}
 use Rattle.grade.specs.Lattice.{Lattice}
 use Rattle.formula.specs.Grades.{Trace}
-use Rattle.formula.specs.Spans.{Span, exact}
+use Rattle.formula.specs.Spans.{Span, exact, unknown}
 
--- nothing is known: from bottom to top
-abbrev pub unknown : {V : Type 0} → Lattice V → Span V
-unknown l = record { low = l .bottom; high = l .top }
-
--- The first `n` frames are known, the later ones are not.
+-- The first n frames are known, and of the later ones nothing is.
 abbrev pub known : {V : Type 0} → Lattice V → ℕ → Trace V → Trace (Span V)
 known l n w t f = cond (ltb t n) (exact (w t f)) (unknown l)
 
--- Two traces agree below n: they have the same first `n` frames.
+-- Two traces agree below n: their first n frames are the same.
 abbrev pub Agree : {V : Type 0} → ℕ → Trace V → Trace V → Type 0
 Agree n w w′ = (t f : ℕ) → t < n → w t f ≡ w′ t f

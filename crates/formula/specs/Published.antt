@@ -1,15 +1,10 @@
 -- The published meaning of a formula: when it is met on the frames s to e, for facts that are on or off.
 use mathlib.Core.Path.{_≡_}
-use mathlib.Core.Bool.{Bool, true, false, _&&_, _||_, not as opposite}
+use mathlib.Core.Bool.{Bool, true, false}
 use mathlib.Core.Logic.{_⊎_}
 use Prim.Native.Nat.{ℕ, _+_, _≤_, _<_}
-use Rattle.grade.specs.Lattice.{Lattice}
 use Rattle.formula.specs.Formula.{Formula, always, hold, hold-off, both, either, not, then, within, horizon}
 use Rattle.formula.specs.Grades.{Trace}
-
--- The lattice of no and yes, no below yes.
-abbrev pub yes-no : Lattice Bool
-yes-no = record { top = true; bottom = false; le = λ x y. opposite x || y; meet = _&&_; join = _||_; flip = opposite }
 
 -- A first part ends at the first frame t at which it is met; the second is then met on what is left.
 abbrev pub Met : Trace Bool → Formula → ℕ → ℕ → Type 0

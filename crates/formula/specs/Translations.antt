@@ -1,15 +1,15 @@
--- Maps from one lattice to another that keep what grades are worked with.
+-- What a translation is: a map between two lattices that carries top, bottom, meet, join and flip.
 use mathlib.Core.Path.{_≡_}
 use Rattle.grade.specs.Lattice.{Lattice}
-use Rattle.formula.specs.Spans.{Span}
+use Rattle.formula.specs.Spans.{Span, span}
 
-pub record Homomorphism {V W : Type 0} (l : Lattice V) (m : Lattice W) (h : V → W) : Type 0 where
-  pub keeps-top : h (l .top) ≡ m .top
-  pub keeps-bottom : h (l .bottom) ≡ m .bottom
-  pub keeps-meet : (x y : V) → h (l .meet x y) ≡ m .meet (h x) (h y)
-  pub keeps-join : (x y : V) → h (l .join x y) ≡ m .join (h x) (h y)
-  pub keeps-flip : (x : V) → h (l .flip x) ≡ m .flip (h x)
+pub record Carries {V W : Type 0} (l : Lattice V) (m : Lattice W) (f : V → W) : Type 0 where
+  pub top : f (l .top) ≡ m .top
+  pub bottom : f (l .bottom) ≡ m .bottom
+  pub meet : (x y : V) → f (l .meet x y) ≡ m .meet (f x) (f y)
+  pub join : (x y : V) → f (l .join x y) ≡ m .join (f x) (f y)
+  pub flip : (x : V) → f (l .flip x) ≡ m .flip (f x)
 
--- A span is translated end by end.
-abbrev pub both-ends : {V W : Type 0} → (V → W) → Span V → Span W
-both-ends h x = record { low = h (x .low); high = h (x .high) }
+-- the translation of a span, end by end
+abbrev pub by-ends : {V W : Type 0} → (V → W) → Span V → Span W
+by-ends f s = span (f (s .low)) (f (s .high))

@@ -1,6 +1,6 @@
 // Formulas: rules as trees, their grades, and what is true of them in every lattice of grades.
 // The trees are definitions that nothing runs; each function below promises one law of them.
-ghost use Rattle.formula.specs.Laws.{Published-meaning, Local, Enclosure, Narrowing, Ends-reached, Carried};
+ghost use Rattle.formula.specs.Laws.{Published-meaning, Local, Enclosure, Narrowing, Ends-reached, Translations-carry};
 ghost use Rattle.formula.specs.Neighbours.{Neighbours-differ};
 use grade::Grade;
 
@@ -48,7 +48,7 @@ pub fn reaches_both_ends<G: Grade>() -> u8
 
 // Every translation from one lattice to another carries the grade.
 pub fn translations_carry<F: Grade, T: Grade>() -> u8
-    ensures { λ _. ⌜ Carried (F·Grade .ops) (T·Grade .ops) ⌝ }
+    ensures { λ _. ⌜ Translations-carry (F·Grade .ops) (T·Grade .ops) ⌝ }
 {
     0
 }
