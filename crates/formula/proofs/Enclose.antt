@@ -1,11 +1,10 @@
 -- Grades worked in spans enclose the grades that they stand for, nest, and settle.
 use mathlib.Core.Path.{_≡_, sym, _∙_}
-use mathlib.Core.Bool.{true}
 use Prim.Native.Nat.{ℕ, _+_, _≤_}
 use Rattle.grade.specs.Lattice.{Lattice, Lawful}
 use Rattle.formula.specs.Formula.{Formula, horizon}
 use Rattle.formula.specs.Grades.{Trace, grade}
-use Rattle.formula.specs.Spans.{Span, spans, exact, encloses, lies-within}
+use Rattle.formula.specs.Spans.{Span, spans, exact}
 use Rattle.formula.specs.Laws.{Enclosure}
 use Rattle.formula.proofs.Related.{related}
 use Rattle.formula.proofs.Carried.{carried-exact, local}
@@ -19,8 +18,8 @@ settled l k w φ s same = local (spans l) k (λ t f. exact (w t f)) φ s same �
 pub enclosure : {V : Type 0} {l : Lattice V} → Lawful l → Enclosure l
 enclosure {l} law = record {
   enclosing = λ k w φ s h.
-    related (spans l) l (Around law) (Around law) (around-kept law) (around-kept law) k w φ s (record { plain = λ t f _ _ _. h t f; turned = λ t f _ _ _. h t f });
+      related (spans l) l (Around l) (Around l) (around-kept law) (around-kept law) k w φ s (record { plain = λ t f _ _ _. h t f; turned = λ t f _ _ _. h t f });
   nesting = λ k k′ φ s h.
-    related (spans l) (spans l) (Within law) (Within law) (within-kept law) (within-kept law) k k′ φ s (record { plain = λ t f _ _ _. h t f; turned = λ t f _ _ _. h t f });
+      related (spans l) (spans l) (Within l) (Within l) (within-kept law) (within-kept law) k k′ φ s (record { plain = λ t f _ _ _. h t f; turned = λ t f _ _ _. h t f });
   settled = settled l;
 }

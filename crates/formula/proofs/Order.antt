@@ -7,6 +7,13 @@ use Rattle.formula.specs.Spans.{Span, spans, encloses, lies-within}
 use Rattle.formula.proofs.YesNo.{and-both, and-first, and-second}
 use Rattle.formula.proofs.Related.{Keeps}
 
+abbrev pub Around : {V : Type 0} → Lattice V → Span V → V → Type 0
+Around l s v = encloses l s v ≡ true
+
+-- a span within another: the other is around both its ends
+abbrev pub Within : {V : Type 0} → Lattice V → Span V → Span V → Type 0
+Within l s t = lies-within l s t ≡ true
+
 module _ {V : Type 0} {l : Lattice V} (law : Lawful l) where
   meet-rises : (x y x′ y′ : V) → l .le x x′ ≡ true → l .le y y′ ≡ true → l .le (l .meet x y) (l .meet x′ y′) ≡ true
   meet-rises x y x′ y′ p q =
@@ -23,16 +30,13 @@ module _ {V : Type 0} {l : Lattice V} (law : Lawful l) where
   flip-falls : (x y : V) → l .le x y ≡ true → l .le (l .flip y) (l .flip x) ≡ true
   flip-falls x y p = sym (law .flip-order x y) ∙ p
 
-  abbrev pub Around : Span V → V → Type 0
-  Around s v = encloses l s v ≡ true
-
-  below : (s : Span V) (v : V) → Around s v → l .le (s .low) v ≡ true
+  below : (s : Span V) (v : V) → Around l s v → l .le (s .low) v ≡ true
   below s v h = and-first (l .le (s .low) v) (l .le v (s .high)) h
 
-  above : (s : Span V) (v : V) → Around s v → l .le v (s .high) ≡ true
+  above : (s : Span V) (v : V) → Around l s v → l .le v (s .high) ≡ true
   above s v h = and-second (l .le (s .low) v) (l .le v (s .high)) h
 
-  pub around-kept : Keeps (spans l) l Around Around
+  pub around-kept : Keeps (spans l) l (Around l) (Around l)
   around-kept = record {
     top = and-both _ _ (law .reflexive _) (law .reflexive _);
     bottom = and-both _ _ (law .reflexive _) (law .reflexive _);
@@ -41,17 +45,13 @@ module _ {V : Type 0} {l : Lattice V} (law : Lawful l) where
     flip = λ s x p. and-both _ _ (flip-falls _ _ (above s x p)) (flip-falls _ _ (below s x p));
   }
 
-  -- a span within another: the other is around both ends
-  abbrev pub Within : Span V → Span V → Type 0
-  Within s t = lies-within l s t ≡ true
-
-  low-in : (s t : Span V) → Within s t → Around t (s .low)
+  low-in : (s t : Span V) → Within l s t → Around l t (s .low)
   low-in s t h = and-first (encloses l t (s .low)) (encloses l t (s .high)) h
 
-  high-in : (s t : Span V) → Within s t → Around t (s .high)
+  high-in : (s t : Span V) → Within l s t → Around l t (s .high)
   high-in s t h = and-second (encloses l t (s .low)) (encloses l t (s .high)) h
 
-  pub within-kept : Keeps (spans l) (spans l) Within Within
+  pub within-kept : Keeps (spans l) (spans l) (Within l) (Within l)
   within-kept = record {
     top = and-both _ _ (around-kept .top) (around-kept .top);
     bottom = and-both _ _ (around-kept .bottom) (around-kept .bottom);

@@ -35,14 +35,16 @@ module _ (w : Trace Bool) where
   always-means inside s e stands ordered fits = (λ met. (omega arith, refl), λ graded. tt)
 
   hold-means : (inside : Bool) (d f : ℕ) → Means w inside (hold d f)
-  hold-means inside d f s e stands ordered fits =
-      (λ met. (met .0, all-in (λ t. w t f) s (suc d) (λ t from below. met .1 t from (omega arith))),
-       λ graded. (graded .0, λ t from to. all-of (λ t. w t f) s (suc d) (graded .1) t from (omega arith)))
+  hold-means inside d f s e stands ordered fits = (
+    λ met. (met .0, all-in (λ t. w t f) s (suc d) (λ t from below. met .1 t from (omega arith))),
+    λ graded. (graded .0, λ t from to. all-of (λ t. w t f) s (suc d) (graded .1) t from (omega arith)),
+  )
 
   hold-off-means : (inside : Bool) (d f : ℕ) → Means w inside (hold-off d f)
-  hold-off-means inside d f s e stands ordered fits =
-      (λ met. (met .0, all-in (λ t. opposite (w t f)) s (suc d) (λ t from below. ap opposite (met .1 t from (omega arith)))),
-       λ graded. (graded .0, λ t from to. not-true _ (all-of (λ t. opposite (w t f)) s (suc d) (graded .1) t from (omega arith))))
+  hold-off-means inside d f s e stands ordered fits = (
+    λ met. (met .0, all-in (λ t. opposite (w t f)) s (suc d) (λ t from below. ap opposite (met .1 t from (omega arith)))),
+    λ graded. (graded .0, λ t from to. not-true _ (all-of (λ t. opposite (w t f)) s (suc d) (graded .1) t from (omega arith))),
+  )
 
   both-means : (inside : Bool) (φ ψ : Formula) → Means w inside φ → Means w inside ψ → Means w inside (both φ ψ)
   both-means inside φ ψ hφ hψ s e stands ordered fits = (towards, back)
@@ -78,9 +80,10 @@ module _ (w : Trace Bool) where
   -- no `not` stands inside, so it fits
   not-means : (inside : Bool) (φ : Formula) → Means w inside φ → Means w inside (not φ)
   not-means inside φ hφ s e stands ordered fits =
-      let part = hφ s e (stands .1) ordered fits in
-      (λ unmet. (fits (stands .0), no-grade _ (λ g. unmet (part .1 (fits (stands .0), g)))),
-       λ graded met. both-ways _ (not-true _ (graded .1)) (part .0 met .1))
+      let part = hφ s e (stands .1) ordered fits in (
+        λ unmet. (fits (stands .0), no-grade _ (λ g. unmet (part .1 (fits (stands .0), g)))),
+        λ graded met. both-ways _ (not-true _ (graded .1)) (part .0 met .1),
+      )
 
   -- the first part stands inside, so it is first met at its horizon
   then-means : (inside : Bool) (φ ψ : Formula) → Means w true φ → Means w inside ψ → Means w inside (then φ ψ)
@@ -96,20 +99,21 @@ module _ (w : Trace Bool) where
       towards met =
           let a = first (met .0) (met .1) .0 (met .3) in
           let ends : met .0 ≡ s + horizon φ = elim (leb-tells (met .0) (s + horizon φ)) [
-            inl h ↦ omega (arith, h .1, a .0)
-          | inr h ↦ absurd (met .4 (s + horizon φ) (omega arith) (h .1) (first (s + horizon φ) (omega arith) .1 (omega arith, a .1)))
+            | inl h ↦ omega (arith, h .1, a .0)
+            | inr h ↦ absurd (met .4 (s + horizon φ) (omega arith) (h .1) (first (s + horizon φ) (omega arith) .1 (omega arith, a .1)))
           ] in
           let b = second (omega (arith, met .2)) .0 (subst (λ (t : ℕ). Met w ψ (t + 1) e) ends (met .5)) in
           (omega (arith, b .0), and-both _ _ (a .1) (b .1))
 
       back : Graded w (then φ ψ) s e → Met w (then φ ψ) s e
-      back graded =
-          (s + horizon φ,
-           omega arith,
-           omega (arith, graded .0),
-           first (s + horizon φ) (omega arith) .1 (omega arith, and-first _ _ (graded .1)),
-           (λ u from before met. let a = first u from .0 met in omega (arith, a .0)),
-           second (omega (arith, graded .0)) .1 (omega (arith, graded .0), and-second (grade yes-no w φ s) _ (graded .1)))
+      back graded = (
+        s + horizon φ,
+        omega arith,
+        omega (arith, graded .0),
+        first (s + horizon φ) (omega arith) .1 (omega arith, and-first _ _ (graded .1)),
+        (λ u from before met. let a = first u from .0 met in omega (arith, a .0)),
+        second (omega (arith, graded .0)) .1 (omega (arith, graded .0), and-second (grade yes-no w φ s) _ (graded .1)),
+      )
 
   -- the starts from which the part ends in the window are those at which it is met up to the window's end
   within-means : (inside : Bool) (a b : ℕ) (φ : Formula) → Means w true φ → Means w inside (within a b φ)
@@ -143,12 +147,12 @@ module _ (w : Trace Bool) where
 pub published : Published-meaning
 published = record {
   inner = λ w φ s e proper ordered.
-    let m = means w true φ s e proper ordered (λ o. absurd (true≢false o)) in
-    (λ met. let g = m .0 met in (omega arith, g .1), λ graded. m .1 (omega arith, graded .1));
+      let m = means w true φ s e proper ordered (λ o. absurd (true≢false o)) in
+      (λ met. let g = m .0 met in (omega arith, g .1), λ graded. m .1 (omega arith, graded .1));
   outer = λ w φ s e proper ordered fits.
-    let m = means w false φ s e proper ordered (λ _. omega arith) in
-    (λ met. m .0 met .1, λ graded. m .1 (omega arith, graded));
+      let m = means w false φ s e proper ordered (λ _. omega arith) in
+      (λ met. m .0 met .1, λ graded. m .1 (omega arith, graded));
   whole = λ w φ proper.
-    let m = means w false φ 0 (horizon φ) proper (omega arith) (λ _. omega arith) in
-    (λ met. m .0 met .1, λ graded. m .1 (omega arith, graded));
+      let m = means w false φ 0 (horizon φ) proper (omega arith) (λ _. omega arith) in
+      (λ met. m .0 met .1, λ graded. m .1 (omega arith, graded));
 }

@@ -59,6 +59,6 @@ pub some-in : (at : ℕ → Bool) (s n t : ℕ) → s ≤ t → t < s + n → at
 some-in at s zero t from below e = let none : ⊥ = omega arith in absurd none
 some-in at s (suc n) t from below e =
     elim (leb-tells (suc s) t) [
-      inl h ↦ or-right _ _ (some-in at (suc s) n t (h .1) (omega arith) e)
-    | inr h ↦ or-left _ _ (subst (λ (u : ℕ). at u ≡ true) (omega (arith, h .1)) e)
+      | inl h ↦ or-right _ _ (some-in at (suc s) n t (h .1) (omega arith) e)
+      | inr h ↦ or-left _ _ (subst (λ (u : ℕ). at u ≡ true) (omega (arith, h .1)) e)
     ]
