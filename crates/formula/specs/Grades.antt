@@ -17,7 +17,7 @@ abbrev pub join-over : {V : Type 0} → Lattice V → (ℕ → V) → ℕ → �
 join-over l at start zero = l .bottom
 join-over l at start (suc count) = l .join (at start) (join-over l at (suc start) count)
 
--- The grade of a formula at the start s. A window has a start for each frame from which its part still ends in it: none where the part is too long.
+-- grade l w φ s: the grade of φ at the start s.
 abbrev pub grade : {V : Type 0} → Lattice V → Trace V → Formula → ℕ → V
 grade l w always s = l .top
 grade l w (hold d f) s = meet-over l (λ t. w t f) s (suc d)
@@ -25,5 +25,7 @@ grade l w (hold-off d f) s = meet-over l (λ t. l .flip (w t f)) s (suc d)
 grade l w (both φ ψ) s = l .meet (grade l w φ s) (grade l w ψ s)
 grade l w (either φ ψ) s = l .join (grade l w φ s) (grade l w ψ s)
 grade l w (not φ) s = l .flip (grade l w φ s)
+-- the second part starts on the frame after the first part's horizon
 grade l w (then φ ψ) s = l .meet (grade l w φ s) (grade l w ψ (s + horizon φ + 1))
+-- the part starts at any frame from s + a on from which it still ends by s + b; where it is too long there is none
 grade l w (within a b φ) s = join-over l (λ t. grade l w φ t) (s + a) (b + 1 - (a + horizon φ))

@@ -24,8 +24,8 @@ pub record Published-meaning : Type 0 where
 
 -- A grade rests on the frames from its start to its horizon, and on no other.
 abbrev pub Local : {V : Type 0} → Lattice V → Type 0
-Local l =
-    (w w′ : Trace _) (φ : Formula) (s : ℕ) → ((t f : ℕ) → s ≤ t → t ≤ s + horizon φ → w t f ≡ w′ t f) → grade l w φ s ≡ grade l w′ φ s
+Local {V} l =
+    (w w′ : Trace V) (φ : Formula) (s : ℕ) → ((t f : ℕ) → s ≤ t → t ≤ s + horizon φ → w t f ≡ w′ t f) → grade l w φ s ≡ grade l w′ φ s
 
 -- Grades worked in spans.
 pub record Enclosure {V : Type 0} (l : Lattice V) : Type 0 where
@@ -55,8 +55,9 @@ pub record Reached {V : Type 0} (l : Lattice V) (φ : Formula) (n : ℕ) (w : Tr
   pub best-agrees : Agree n w (best l n w φ)
   pub best-is-high : grade l (best l n w φ) φ 0 ≡ grade (spans l) (known l n w) φ 0 .high
 
+-- Both ends are reached where no fact is read from both sides.
 abbrev pub Ends-reached : {V : Type 0} → Lattice V → Type 0
-Ends-reached l = (φ : Formula) (n : ℕ) (w : Trace _) → One-sided φ → Reached l φ n w
+Ends-reached {V} l = (φ : Formula) (n : ℕ) (w : Trace V) → One-sided φ → Reached l φ n w
 
 -- A map carries grades where grading and mapping can change places, for values and for spans.
 pub record Carries-grades {V W : Type 0} (l : Lattice V) (m : Lattice W) (h : V → W) : Type 0 where
