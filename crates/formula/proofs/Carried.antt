@@ -7,7 +7,7 @@ use Rattle.formula.specs.Grades.{Trace, grade}
 use Rattle.formula.specs.Spans.{Span, spans, exact}
 use Rattle.formula.specs.Translations.{Carries, by-ends}
 use Rattle.formula.specs.Laws.{Translations-carry}
-use Rattle.formula.proofs.Related.{Keeps, related}
+use Rattle.formula.proofs.Related.{Keeps, related-by}
 
 module _ {V W : Type 0} {l : Lattice V} {m : Lattice W} {h : V → W} (hom : Carries l m h) where
   -- y is what x is translated to
@@ -24,9 +24,7 @@ module _ {V W : Type 0} {l : Lattice V} {m : Lattice W} {h : V → W} (hom : Car
   }
 
   pub carried : (w : Trace V) (φ : Formula) (s : ℕ) → h (grade l w φ s) ≡ grade m (λ t f. h (w t f)) φ s
-  carried w φ s =
-      related l m Becomes Becomes becomes-kept becomes-kept w (λ t f. h (w t f)) φ s
-      (record { plain = λ t f _ _ _. refl; turned = λ t f _ _ _. refl })
+  carried w φ s = related-by l m Becomes becomes-kept w (λ t f. h (w t f)) φ s (λ t f _ _. refl)
 
   -- the same map on both ends of a span
   ends-kept : Carries (spans l) (spans m) (by-ends h)
@@ -51,7 +49,7 @@ carried-exact l w φ s = carried (exact-kept l) w φ s
 -- Traces that are the same from the start to the horizon give the same grade.
 pub local : {V : Type 0} (l : Lattice V) (w w′ : Trace V) (φ : Formula) (s : ℕ)
     → ((t f : ℕ) → s ≤ t → t ≤ s + horizon φ → w t f ≡ w′ t f) → grade l w φ s ≡ grade l w′ φ s
-local l w w′ φ s same = related l l _≡_ _≡_ equal-kept equal-kept w w′ φ s (record { plain = λ t f _. same t f; turned = λ t f _. same t f })
+local l w w′ φ s same = related-by l l _≡_ equal-kept w w′ φ s same
   where
     equal-kept : Keeps l l _≡_ _≡_
     equal-kept = record {

@@ -6,7 +6,7 @@ use Rattle.formula.specs.Formula.{Formula, horizon}
 use Rattle.formula.specs.Grades.{Trace, grade}
 use Rattle.formula.specs.Spans.{Span, spans, exact}
 use Rattle.formula.specs.Laws.{Enclosure}
-use Rattle.formula.proofs.Related.{related}
+use Rattle.formula.proofs.Related.{related-by}
 use Rattle.formula.proofs.Carried.{carried-exact, local}
 use Rattle.formula.proofs.Order.{Around, around-kept, Within, within-kept}
 
@@ -17,9 +17,7 @@ settled l k w φ s same = local (spans l) k (λ t f. exact (w t f)) φ s same �
 
 pub enclosure : {V : Type 0} {l : Lattice V} → Lawful l → Enclosure l
 enclosure {l} law = record {
-  enclosing = λ k w φ s h.
-      related (spans l) l (Around l) (Around l) (around-kept law) (around-kept law) k w φ s (record { plain = λ t f _ _ _. h t f; turned = λ t f _ _ _. h t f });
-  nesting = λ k k′ φ s h.
-      related (spans l) (spans l) (Within l) (Within l) (within-kept law) (within-kept law) k k′ φ s (record { plain = λ t f _ _ _. h t f; turned = λ t f _ _ _. h t f });
+  enclosing = λ k w φ s h. related-by (spans l) l (Around l) (around-kept law) k w φ s (λ t f _ _. h t f);
+  nesting = λ k k′ φ s h. related-by (spans l) (spans l) (Within l) (within-kept law) k k′ φ s (λ t f _ _. h t f);
   settled = settled l;
 }

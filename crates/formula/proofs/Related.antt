@@ -76,3 +76,8 @@ module _ {V W : Type 0} (l : Lattice V) (m : Lattice W) where
   related P N k k′ w w′ (within a b φ) s alike =
       join-over-kept P N k _ _ (s + a) _
       (λ t from below. related P N k k′ w w′ φ t (part P N w w′ (within a b φ) φ s t (λ side f r. r) (omega arith) (omega arith) alike))
+
+  -- One relation on both sides of a flip, on all facts.
+  pub related-by : (R : V → W → Type 0) → Keeps l m R R → (w : Trace V) (w′ : Trace W) (φ : Formula) (s : ℕ)
+      → ((t f : ℕ) → s ≤ t → t ≤ s + horizon φ → R (w t f) (w′ t f)) → R (grade l w φ s) (grade m w′ φ s)
+  related-by R k w w′ φ s h = related R R k k w w′ φ s (record { plain = λ t f _. h t f; turned = λ t f _. h t f })
