@@ -1,14 +1,13 @@
 -- What is known of a take encloses whatever it may become, and narrows as it is fed.
 use mathlib.Core.Path.{_≡_, refl, ap, subst}
 use mathlib.Core.Bool.{Bool, true, false, cond}
-use Prim.Native.Nat.{ℕ, _+_, _≤_, _<_}
+use Prim.Native.Nat.{ℕ, _≤_, _<_}
 use native.Mathlib.Omega.{arith}
 use lib.Dec.{ltb}
 use borrow.Author.Tests.{ltb-true, ltb-false, lt-ltb}
 use Rattle.grade.specs.Lattice.{Lattice, Lawful}
-use Rattle.formula.specs.Formula.{Formula, horizon}
 use Rattle.formula.specs.Grades.{Trace}
-use Rattle.formula.specs.Spans.{Span, exact, unknown, encloses, lies-within}
+use Rattle.formula.specs.Spans.{exact, unknown, encloses, lies-within}
 use Rattle.formula.specs.Known.{known, Agree}
 use Rattle.formula.specs.Laws.{Narrowing}
 use Rattle.formula.proofs.YesNo.{and-both}

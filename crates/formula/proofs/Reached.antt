@@ -1,12 +1,12 @@
 -- The two ends of what is known are grades of takes, where no fact is read from both sides. Assumes nothing of the lattice.
 use mathlib.Core.Path.{_≡_, refl, sym, ap, ap₂}
 use mathlib.Core.Bool.{Bool, true, false, cond}
-use Prim.Native.Nat.{ℕ, _<_}
+use Prim.Native.Nat.{ℕ}
 use lib.Dec.{ltb}
 use borrow.Author.Tests.{lt-ltb}
 use Rattle.grade.specs.Lattice.{Lattice}
 use Rattle.formula.specs.Formula.{Formula}
-use Rattle.formula.specs.Grades.{Trace, grade}
+use Rattle.formula.specs.Grades.{Trace}
 use Rattle.formula.specs.Spans.{Span, spans, exact, unknown}
 use Rattle.formula.specs.Known.{known, Agree}
 use Rattle.formula.specs.Sides.{reaches, One-sided, filled, worst, best}

@@ -1,8 +1,8 @@
 -- Two readings that lie close and are wrong, and a take on which each says yes where the grade says no.
-use mathlib.Core.Path.{_≡_, refl}
+use mathlib.Core.Path.{_≡_}
 use mathlib.Core.Bool.{Bool, true, false}
 use mathlib.Core.List.{List, [], _∷_}
-use Prim.Native.Nat.{ℕ, suc, _+_}
+use Prim.Native.Nat.{ℕ, _+_}
 use lib.ListN.{getD}
 use Rattle.grade.specs.Lattice.{Lattice}
 use Rattle.formula.specs.Formula.{Formula, hold, then, within, horizon}
