@@ -61,3 +61,20 @@ pub fn listing(heap: Global, sheet: &Sheet, sided: bool) -> Result<String, Alloc
     }
     Ok(text)
 }
+
+// What is to be told of any bytes: the listing of the sheet that they are, or the notice of why they are none.
+pub fn told(heap: Global, bytes: &[u8]) -> Result<Vec<u8>, AllocError>
+    ensures { λ r. ⌜ made r (λ v. Tells (load-result (now (bytes .entry))) (vec-items v)) ⌝ }
+{
+    let mut sheet = Sheet::new();
+    match sheet.load(bytes) {
+        Ok(()) => {
+            let text = listing(heap, &sheet, sheet.sided())?;
+            Vec::from_slice(heap, text.as_bytes())
+        }
+        Err(fault) => {
+            let place = noticed(fault, bytes);
+            Vec::from_slice(heap, &place)
+        }
+    }
+}
