@@ -4,9 +4,14 @@ use mathlib.Core.List.{List, [], _++_}
 use Prim.Native.Nat.{ℕ, zero, suc}
 use lib.ListN.{length}
 use lib.Chars.{codes}
+use Rattle.std.specs.Orderings.{Decides}
 use Rattle.std.specs.Written.{decimal}
+use mathlib.Core.Path.{_≡_}
 use Rattle.sheet.specs.Rules.{Written, row-at, length-of}
 use Rattle.sheet.specs.Sheets.{rule-length}
+use Rattle.sheet.specs.Sides.{One-sided}
+use Rattle.sheet.specs.Loading.{Verdict, accepted, refused}
+use Rattle.report.specs.Texts.{notice-text}
 use Rattle.sheet.specs.declared.row.Row.{Row}
 use Rattle.sheet.specs.declared.row.Row.the-variants.{Always, Hold, HoldOff, Both, Either, Not, Then, Within}
 
@@ -40,3 +45,8 @@ lines-of row len (suc n) = lines-of row len n ++ row-line n (row n) (len n)
 
 abbrev pub listing-text : Written → Bool → List ℕ
 listing-text w sided = head-line (w .facts) (length (w .rows)) (rule-length w) sided ++ lines-of (row-at (w .rows)) (length-of (row-at (w .rows))) (length (w .rows))
+
+-- what is told of bytes, by what they come to
+abbrev pub Tells : Verdict → List ℕ → Type 0
+Tells (accepted w) text = (sided : Bool) × Decides sided (One-sided w) × (text ≡ listing-text w sided)
+Tells (refused number row) text = text ≡ notice-text number row

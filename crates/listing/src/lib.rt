@@ -2,8 +2,11 @@
 ghost use mathlib.Core.Path.{_≡_};
 ghost use Rattle.std.specs.Of.String.{string-bytes};
 ghost use Rattle.std.specs.Vec.{made};
+ghost use Rattle.std.specs.Of.Vec.{vec-items};
+ghost use Rattle.sheet.specs.Loading.{load-result};
 ghost use Rattle.sheet.specs.Sheets.{sheet-of};
-ghost use Rattle.listing.specs.Words.{task-text, row-line, sides-text, head-line, listing-text};
+ghost use Rattle.listing.specs.Words.{task-text, row-line, sides-text, head-line, listing-text, Tells};
+use report::notice;
 use sheet::record::Sheet;
 use sheet::row::Row;
 use std::alloc::AllocError;
@@ -73,7 +76,8 @@ pub fn told(heap: Global, bytes: &[u8]) -> Result<Vec<u8>, AllocError>
             Vec::from_slice(heap, text.as_bytes())
         }
         Err(fault) => {
-            let place = noticed(fault, bytes);
+            let mut place = [0; 14];
+            let _ = notice(&mut place, fault.refusal.number(), fault.row);
             Vec::from_slice(heap, &place)
         }
     }
