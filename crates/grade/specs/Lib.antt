@@ -1,1 +1,4 @@
 pub mod Lattice
+pub mod Margins
+pub mod Voices
+pub mod YesNo

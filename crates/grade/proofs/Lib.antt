@@ -1,0 +1,4 @@
+pub mod MarginLaws
+pub mod Same
+pub mod VoiceBits
+pub mod VoicesLaws

@@ -1,0 +1,41 @@
+// Margins as grades, in the usual order.
+ghost use Rattle.grade.specs.Margins.{margins};
+use super::Margin;
+use crate::Grade;
+
+pub impl Grade for Margin as MarginGrade {
+    ghost ops = { margins };
+
+    fn top() -> Margin {
+        Margin::new(i32::MAX)
+    }
+
+    fn bottom() -> Margin {
+        Margin::new(i32::MIN)
+    }
+
+    fn below(self, other: Margin) -> bool {
+        self.value <= other.value
+    }
+
+    fn meet(self, other: Margin) -> Margin {
+        if self.value <= other.value {
+            self
+        } else {
+            other
+        }
+    }
+
+    fn join(self, other: Margin) -> Margin {
+        if self.value <= other.value {
+            other
+        } else {
+            self
+        }
+    }
+
+    // Not the sign's turn: -1 - m trades 0 for -1, and every margin has a partner.
+    fn flip(self) -> Margin {
+        Margin::new(-1 - self.value)
+    }
+}
