@@ -2,8 +2,11 @@
 ghost use mathlib.Core.Path.{_≡_};
 ghost use Rattle.grade.specs.Lattice.{Lattice, Lawful};
 
+pub mod carry;
 pub mod margin;
 pub mod voices;
+pub mod span;
+pub mod translation;
 pub mod yes_no;
 
 // An answer depends on the operands alone: each is an equality with a member of `ops`.
