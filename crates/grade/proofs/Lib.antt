@@ -2,5 +2,6 @@ pub mod CutLaws
 pub mod MarginLaws
 pub mod Same
 pub mod SpanLaws
+pub mod Strips
 pub mod VoiceBits
 pub mod VoicesLaws
