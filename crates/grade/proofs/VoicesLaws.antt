@@ -10,14 +10,10 @@ use Rattle.std.proofs.shelf.Bits.{and-comm, and-mask}
 use Rattle.std.proofs.shelf.Ways.{same-from-decides, decides-like}
 use Rattle.std.proofs.shelf.Tests.{eqb-true, eq-eqb}
 use Rattle.grade.specs.Lattice.{Lawful}
-use Rattle.grade.specs.Voices.{voices, voice}
+use Rattle.grade.specs.Voices.{voice, voices, Among}
 use Rattle.grade.specs.declared.voices.Voices.{Voices as Word}
 use Rattle.grade.proofs.Same.{same-word}
 use Rattle.grade.proofs.VoiceBits.{voice-and, voice-or, voice-complement, same-voices}
-
--- every voice of x is one of y's
-abbrev Among : Word → Word → Type 0
-Among x y = (i : ℕ) → i < 16 → voice i (x .bits) ≡ true → voice i (y .bits) ≡ true
 
 and-absorbs : (p q : Bool) → (p ≡ true → q ≡ true) → (p && q) ≡ p
 and-absorbs true q h = h refl

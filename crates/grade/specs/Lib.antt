@@ -2,6 +2,7 @@ pub mod Carry
 pub mod Cuts
 pub mod Lattice
 pub mod Margins
+pub mod Neighbours
 pub mod Spans
 pub mod Translations
 pub mod Voices

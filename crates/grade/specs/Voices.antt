@@ -1,5 +1,6 @@
 -- Voices as grades: sixteen bits, each a yes or a no of its own.
-use mathlib.Core.Bool.{Bool}
+use mathlib.Core.Path.{_≡_}
+use mathlib.Core.Bool.{Bool, true}
 use Prim.Native.Nat.{ℕ, _<_, _^_, _-_, _/_, _%_}
 use native.Mathlib.Nat.{lt-of-le-of-lt}
 use native.Mathlib.Omega.{arith}
@@ -15,11 +16,15 @@ word n h = record { bits = n; fits = h }
 abbrev pub voice : ℕ → ℕ → Bool
 voice i n = eqb (n / 2 ^ i % 2) 1
 
+-- every voice of x is one of y's
+abbrev pub Among : Word → Word → Type 0
+Among x y = (i : ℕ) → i < 16 → voice i (x .bits) ≡ true → voice i (y .bits) ≡ true
+
 abbrev pub voices : Lattice Word
 voices = record {
   top = word 65535 (lit< tt);
   bottom = word 0 (lit< tt);
-  -- every voice of x is one of y's
+  -- `Among`, as a test on the two words
   le = λ x y. eqb (bitAnd (x .bits) (y .bits)) (x .bits);
   meet = λ x y. word (bitAnd (x .bits) (y .bits)) (lt-of-le-of-lt (and-le-l (x .bits) (y .bits)) (x .fits));
   join = λ x y. word (bitOr (x .bits) (y .bits)) (or-lt 16 (x .bits) (y .bits) (x .fits) (y .fits));

@@ -5,6 +5,7 @@ ghost use Rattle.grade.specs.Lattice.{Lattice, Lawful};
 pub mod carry;
 pub mod margin;
 pub mod voices;
+pub mod neighbours;
 pub mod span;
 pub mod translation;
 pub mod yes_no;

@@ -1,7 +1,6 @@
 // Translations: maps from one grade into another that carry every operation.
 ghost use mathlib.Core.Path.{_≡_};
 ghost use Rattle.grade.specs.Translations.{Carries};
-ghost use denote.Ref.{now};
 use crate::Grade;
 
 pub mod ends;

@@ -1,5 +1,7 @@
 // Voices as grades: one word is below another where each bit that it sets is set in the other.
-ghost use Rattle.grade.specs.Voices.{voices};
+ghost use mathlib.Core.Path.{_≡_};
+ghost use Rattle.std.specs.Orderings.{Decides};
+ghost use Rattle.grade.specs.Voices.{voices, Among};
 use super::Voices;
 use crate::Grade;
 
@@ -14,7 +16,10 @@ pub impl Grade for Voices as VoicesGrade {
         Voices::new(0)
     }
 
-    fn below(self, other: Voices) -> bool {
+    fn below(self, other: Voices) -> bool
+        ensures answer { λ r. ⌜ r ≡ voices .le self other ⌝ }
+        ensures means { λ r. ⌜ Decides r (Among self other) ⌝ }
+    {
         self.bits & other.bits == self.bits
     }
 
