@@ -1,7 +1,7 @@
+pub mod Arrivals
 pub mod CutLaws
 pub mod MarginLaws
 pub mod Same
 pub mod SpanLaws
-pub mod Strips
 pub mod VoiceBits
 pub mod VoicesLaws

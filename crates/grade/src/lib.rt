@@ -2,13 +2,31 @@
 ghost use mathlib.Core.Path.{_≡_};
 ghost use Rattle.grade.specs.Lattice.{Lattice, Lawful};
 
-pub mod carry;
 pub mod margin;
-pub mod voices;
 pub mod neighbours;
 pub mod span;
+pub mod strip;
+#[cfg(test)]
+mod tests;
 pub mod translation;
+pub mod voices;
 pub mod yes_no;
+
+pub use margin::Margin;
+pub use margin::graded::MarginGrade;
+pub use span::Span;
+pub use span::graded::SpanGrade;
+pub use strip::carry;
+pub use translation::Translation;
+pub use translation::ends::Ends;
+pub use translation::ends::EndsTranslation;
+pub use translation::sign::Sign;
+pub use translation::sign::SignTranslation;
+pub use translation::voice::Voice;
+pub use translation::voice::VoiceTranslation;
+pub use voices::Voices;
+pub use voices::graded::VoicesGrade;
+pub use yes_no::YesNoGrade;
 
 // An answer depends on the operands alone: each is an equality with a member of `ops`.
 pub trait Grade: Copy {

@@ -5,7 +5,7 @@ ghost use lib.Signed.{mag};
 
 pub mod graded;
 
-#[derive(Clone, Copy)]
+#[derive(Clone, Copy, Debug, PartialEq, Eq)]
 pub struct Margin {
     value: i32,
     // -2147483648 to 2147483647: `mag` is n both of n and of -1 - n.

@@ -1,7 +1,7 @@
 use mathlib.Core.Path.{_≡_}
 use mathlib.Core.List.{map}
 use lib.ListN.{take}
-use Rattle.grade.proofs.carry.carry.Given as given
+use Rattle.grade.proofs.strip.carry.Given as given
 
 -- the grades so far have arrived
 abbrev pub Inv-loop-i : given.InvT-loop-i

@@ -1,8 +1,8 @@
 use mathlib.Core.Path.{refl}
 use native.Mathlib.Omega.{arith}
 use Rattle.std.proofs.shelf.Tests.{eq-eqb}
-use Rattle.grade.proofs.Strips.{one-more, all}
-use Rattle.grade.proofs.carry.carry.Needs as need
+use Rattle.grade.proofs.Arrivals.{one-more, all}
+use Rattle.grade.proofs.strip.carry.Needs as need
 
 pub loop-i-again : need.loop-i-again
 loop-i-again g c =

@@ -1,5 +1,5 @@
 // Carrying a strip of grades through a translation into another strip.
-ghost use Rattle.grade.specs.Carry.{Carried};
+ghost use Rattle.grade.specs.Strips.{Carried};
 use crate::translation::Translation;
 use refusal::Refusal;
 
