@@ -22,7 +22,7 @@ and-absorbs false q h = refl
 pub below-by-voices : (x y : Word) → Among x y → voices .le x y ≡ true
 below-by-voices x y h =
     eq-eqb _ _ (same-voices 16 (voices .meet x y .bits) (x .bits) (voices .meet x y .fits) (x .fits)
-      (λ i k. voice-and i (x .bits) (y .bits) ∙ and-absorbs _ _ (h i k)))
+    (λ i k. voice-and i (x .bits) (y .bits) ∙ and-absorbs _ _ (h i k)))
 
 pub voices-of-below : (x y : Word) → voices .le x y ≡ true → Among x y
 voices-of-below x y e i k v =
@@ -52,14 +52,14 @@ voices-lawful = record {
   meet-left = λ x y. below-by-voices (voices .meet x y) x (λ i k v. let e = voice-and i (x .bits) (y .bits) in grind arith);
   meet-right = λ x y. below-by-voices (voices .meet x y) y (λ i k v. let e = voice-and i (x .bits) (y .bits) in grind arith);
   meet-above = λ x y z p q. below-by-voices z (voices .meet x y) (λ i k v.
-    voice-and i (x .bits) (y .bits) ∙ ap₂ _&&_ (voices-of-below z x p i k v) (voices-of-below z y q i k v));
+      voice-and i (x .bits) (y .bits) ∙ ap₂ _&&_ (voices-of-below z x p i k v) (voices-of-below z y q i k v));
   join-left = λ x y. below-by-voices x (voices .join x y) (λ i k v. let e = voice-or i (x .bits) (y .bits) in grind arith);
   join-right = λ x y. below-by-voices y (voices .join x y) (λ i k v. let e = voice-or i (x .bits) (y .bits) in grind arith);
   join-below = λ x y z p q. below-by-voices (voices .join x y) z (λ i k v.
-    let e = voice-or i (x .bits) (y .bits) in
-    let x-in = voices-of-below x z p i k in
-    let y-in = voices-of-below y z q i k in
-    grind arith);
+      let e = voice-or i (x .bits) (y .bits) in
+      let x-in = voices-of-below x z p i k in
+      let y-in = voices-of-below y z q i k in
+      grind arith);
   flip-twice = λ x. same-word _ _ (omega arith);
   flip-order = λ x y. same-from-decides _ _ (below-tells x y) (decides-like _ (turned-back x y) (turned x y) (below-tells (voices .flip y) (voices .flip x)));
 }

@@ -3,10 +3,8 @@ ghost use Rattle.grade.specs.Neighbours.{No-flip-by-sign, No-cut-at-one};
 
 pub fn no_flip_by_sign()
     ensures { λ _. ⌜ No-flip-by-sign ⌝ }
-{
-}
+{}
 
 pub fn no_cut_at_one()
     ensures { λ _. ⌜ No-cut-at-one ⌝ }
-{
-}
+{}

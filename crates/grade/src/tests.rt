@@ -1,5 +1,11 @@
+use crate::margin::MarginDebug;
+use crate::margin::MarginPartialEq;
+use crate::span::SpanDebug;
+use crate::span::SpanPartialEq;
 use crate::*;
 use refusal::Refusal;
+use refusal::RefusalDebug;
+use refusal::RefusalPartialEq;
 use std::test::*;
 
 #[test]
@@ -52,7 +58,10 @@ fn sign_carries_margins() -> Result<(), Fail> {
     check_eq(carry(&Sign, &margins, &mut answers), Ok(()))?;
     check_eq(answers, [true, true, false])?;
     let mut short = [false; 2];
-    check_eq(carry(&Sign, &margins, &mut short), Err(Refusal::UnequalStrips))?;
+    check_eq(
+        carry(&Sign, &margins, &mut short),
+        Err(Refusal::UnequalStrips),
+    )?;
     check_eq(short, [false, false])
 }
 
@@ -62,6 +71,8 @@ fn voices_are_counted_round() -> Result<(), Fail> {
     check(Voice::new(17).translate(words))?;
     check(Voice::new(1).translate(words))?;
     check(!Voice::new(0).translate(words))?;
-    let ends = Ends { each: Voice::new(1) };
+    let ends = Ends {
+        each: Voice::new(1),
+    };
     check_eq(ends.translate(Span::exact(words)), Span::exact(true))
 }

@@ -9,6 +9,7 @@ pub mod voice;
 
 pub trait Translation {
     type From: Grade;
+
     type To: Grade;
 
     ghost map: { Self → Self·From → Self·To };

@@ -12,6 +12,7 @@ pub struct Ends<T> {
 
 pub impl<T: Translation> Translation for Ends<T> as EndsTranslation {
     type From = Span<T::From>;
+
     type To = Span<T::To>;
 
     ghost map = { λ e. by-ends (T·Translation .map (e .each)) };

@@ -10,6 +10,7 @@ pub struct Sign;
 
 pub impl Translation for Sign as SignTranslation {
     type From = Margin;
+
     type To = bool;
 
     ghost map = { λ _. met };

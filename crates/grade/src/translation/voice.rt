@@ -24,6 +24,7 @@ impl Voice {
 
 pub impl Translation for Voice as VoiceTranslation {
     type From = Voices;
+
     type To = bool;
 
     ghost map = { λ v. heard (v .bit) };

@@ -10,9 +10,9 @@ pub returns : need.returns
 returns c = record {
   no-partner = omega arith;
   no-map = λ f negates.
-    let least = margins .bottom in
-    let partner : 2 ^ 31 < 2 ^ 31 = rw (negates least) at (f least .fits) in
-    omega arith;
+      let least = margins .bottom in
+      let partner : 2 ^ 31 < 2 ^ 31 = rw (negates least) at (f least .fits) in
+      omega arith;
   own-flip = refl;
   not-carried = true≢false;
 }
