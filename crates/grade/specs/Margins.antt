@@ -29,7 +29,8 @@ margins = record {
   top = margin (pos 2147483647) (lit< tt);
   bottom = margin (negsuc 2147483647) (lit< tt);
   le = λ x y. leZ (x .value) (y .value);
+  -- the lower and the higher of the two
   meet = λ x y. cond (leZ (x .value) (y .value)) x y;
-  join = λ x y. cond (leZ (x .value) (y .value)) y x;
+  join = λ x y. cond (leZ (y .value) (x .value)) x y;
   flip = λ x. margin (opposite (x .value)) (opposite-fits (x .value) (x .fits));
 }

@@ -19,19 +19,11 @@ pub impl Grade for Margin as MarginGrade {
     }
 
     fn meet(self, other: Margin) -> Margin {
-        if self.value <= other.value {
-            self
-        } else {
-            other
-        }
+        if self.below(other) { self } else { other }
     }
 
     fn join(self, other: Margin) -> Margin {
-        if self.value <= other.value {
-            other
-        } else {
-            self
-        }
+        if other.below(self) { self } else { other }
     }
 
     // Not the sign's turn: -1 - m trades 0 for -1, and every margin has a partner.
