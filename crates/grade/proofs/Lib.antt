@@ -1,5 +1,5 @@
 pub mod Arrivals
-pub mod CutLaws
+pub mod HeardLaws
 pub mod MarginLaws
 pub mod Same
 pub mod SpanLaws

@@ -1,15 +1,18 @@
 -- What and, or and the complement do to one bit, and that a number is its bits.
-use mathlib.Core.Path.{_≡_, refl, sym, ap, _∙_}
-use mathlib.Core.Bool.{Bool, true, false, not, _&&_, _||_}
-use Prim.Native.Nat.{ℕ, zero, suc, _+_, _-_, _*_, _<_, _^_, _/_, _%_, min, max}
+use mathlib.Core.Path.{_≡_, sym, ap, _∙_}
+use mathlib.Core.Bool.{Bool, not, _&&_, _||_}
+use Prim.Native.Nat.{ℕ, zero, suc, _-_, _<_, _^_, _/_, _%_}
 use native.Mathlib.Nat.{pow-suc}
 use native.Mathlib.Numerals.{one-add}
 use native.Mathlib.Omega.{arith}
 use lib.Dec.{eqb}
 use lib.Bits.{bitAnd, bitOr, and-step, or-step}
-use Rattle.std.proofs.shelf.Bits.{shr-shr, and-shr, or-shr, mod-below}
+use Rattle.std.proofs.shelf.Bits.{shr-shr, and-shr, or-shr}
 use Rattle.std.proofs.shelf.Ways.{tells}
-use Rattle.grade.specs.Voices.{voice}
+
+-- whether bit i of n is set
+abbrev pub voice : ℕ → ℕ → Bool
+voice i n = eqb (n / 2 ^ i % 2) 1
 
 voice-suc : (i n : ℕ) → voice (suc i) n ≡ voice i (n / 2)
 voice-suc i n = ap (λ m. eqb (m % 2) 1) (rw one-add at (sym (shr-shr n 1 i)))

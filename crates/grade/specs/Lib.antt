@@ -1,4 +1,3 @@
-pub mod Cuts
 pub mod Lattice
 pub mod Margins
 pub mod Neighbours

@@ -2,9 +2,9 @@
 use mathlib.Core.Path.{_≡_}
 use mathlib.Core.Bool.{Bool, false, not}
 use Prim.Native.Nat.{_<_, _^_}
-use lib.IntN.{ℤ, pos, negsuc, negℤ}
+use lib.IntN.{pos, negsuc, negℤ, _-ℤ_}
 use lib.Signed.{mag, leZ}
-use Rattle.grade.specs.Margins.{margins, opposite}
+use Rattle.grade.specs.Margins.{margins}
 use Rattle.grade.specs.Translations.{Carries}
 use Rattle.grade.specs.YesNo.{yes-no}
 use Rattle.grade.specs.declared.margin.Margin.{Margin}
@@ -25,7 +25,7 @@ from-one m = leZ (pos 1) (m .value)
 -- calling that a translation
 pub record No-cut-at-one : Type 0 where
   -- 0 and -1 are flips of one another, and both would be no
-  pub flips : opposite (pos 0) ≡ negsuc 0
+  pub flips : negsuc 0 -ℤ pos 0 ≡ negsuc 0
   pub zero-no : leZ (pos 1) (pos 0) ≡ false
-  pub flip-no : leZ (pos 1) (opposite (pos 0)) ≡ false
+  pub flip-no : leZ (pos 1) (negsuc 0 -ℤ pos 0) ≡ false
   pub no-translation : Carries margins yes-no from-one → ⊥

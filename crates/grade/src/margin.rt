@@ -1,5 +1,4 @@
 // A margin: by how much a fact is met, from 0 upward, or missed.
-ghost use mathlib.Core.Path.{_≡_};
 ghost use Prim.Native.Nat.{_<_, _^_};
 ghost use lib.Signed.{mag};
 
@@ -8,20 +7,6 @@ pub mod graded;
 #[derive(Clone, Copy, Debug, PartialEq, Eq)]
 pub struct Margin {
     value: i32,
-    // -2147483648 to 2147483647: `mag` is n both of n and of -1 - n.
+    // From -2147483648 to 2147483647: `mag` is n both of n and of -1 - n.
     ghost fits: { mag value < 2 ^ 31 },
-}
-
-impl Margin {
-    pub fn new(value: i32) -> Margin
-        ensures { λ r. ⌜ r .value ≡ value ⌝ }
-    {
-        Margin { value }
-    }
-
-    pub fn value(self) -> i32
-        ensures { λ r. ⌜ r ≡ self .value ⌝ }
-    {
-        self.value
-    }
 }

@@ -1,7 +1,23 @@
 // Margins as grades, in the usual order.
-ghost use Rattle.grade.specs.Margins.{margins};
+ghost use mathlib.Core.Path.{_≡_};
+ghost use Rattle.grade.specs.Margins.{margin, margins};
 use super::Margin;
 use crate::Grade;
+
+impl Margin {
+    pub fn new(value: i32) -> Margin
+        ensures whole { λ r. ⌜ r ≡ margin value ⌝ }
+        ensures value { λ r. ⌜ r .value ≡ value ⌝ }
+    {
+        Margin { value }
+    }
+
+    pub fn value(self) -> i32
+        ensures { λ r. ⌜ r ≡ self .value ⌝ }
+    {
+        self.value
+    }
+}
 
 pub impl Grade for Margin as MarginGrade {
     ghost ops = { margins };

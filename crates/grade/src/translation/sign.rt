@@ -1,5 +1,5 @@
 // The sign: a margin from 0 upward is a yes.
-ghost use Rattle.grade.specs.Cuts.{met};
+ghost use Rattle.grade.specs.Margins.{met};
 use super::Translation;
 use crate::margin::Margin;
 use crate::margin::graded::MarginGrade;

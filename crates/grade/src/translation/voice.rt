@@ -1,7 +1,7 @@
 // A voice: one bit of the sixteen as a yes or a no.
 ghost use mathlib.Core.Path.{_≡_};
 ghost use Prim.Native.Nat.{_<_, _%_};
-ghost use Rattle.grade.specs.Cuts.{heard};
+ghost use Rattle.grade.specs.Voices.{heard};
 use super::Translation;
 use crate::voices::Voices;
 use crate::voices::graded::VoicesGrade;

@@ -1,9 +1,28 @@
 // Voices as grades: one word is below another where each bit that it sets is set in the other.
 ghost use mathlib.Core.Path.{_≡_};
-ghost use Rattle.std.specs.Orderings.{Decides};
-ghost use Rattle.grade.specs.Voices.{voices, Among};
+ghost use Rattle.grade.specs.Voices.{word, voices, Order-by-voices};
 use super::Voices;
 use crate::Grade;
+
+impl Voices {
+    pub fn new(bits: u16) -> Voices
+        ensures whole { λ r. ⌜ r ≡ word bits ⌝ }
+        ensures bits { λ r. ⌜ r .bits ≡ bits ⌝ }
+    {
+        Voices { bits }
+    }
+
+    pub fn bits(self) -> u16
+        ensures { λ r. ⌜ r ≡ self .bits ⌝ }
+    {
+        self.bits
+    }
+
+    // What `below` asks, in words of single voices.
+    pub fn order_by_voices()
+        ensures { λ _. ⌜ Order-by-voices ⌝ }
+    {}
+}
 
 pub impl Grade for Voices as VoicesGrade {
     ghost ops = { voices };
@@ -16,10 +35,7 @@ pub impl Grade for Voices as VoicesGrade {
         Voices::new(0)
     }
 
-    fn below(self, other: Voices) -> bool
-        ensures answer { λ r. ⌜ r ≡ voices .le self other ⌝ }
-        ensures means { λ r. ⌜ Decides r (Among self other) ⌝ }
-    {
+    fn below(self, other: Voices) -> bool {
         self.bits & other.bits == self.bits
     }
 

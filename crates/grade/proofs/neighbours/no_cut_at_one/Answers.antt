@@ -1,5 +1,4 @@
 use mathlib.Core.Path.{refl}
-use lib.Dec.{lit<}
 use lib.IntN.{pos}
 use Rattle.std.proofs.shelf.Tests.{false≢true}
 use Rattle.grade.specs.Margins.{margin}
@@ -10,5 +9,5 @@ returns c = record {
   flips = refl;
   zero-no = refl;
   flip-no = refl;
-  no-translation = λ carries. false≢true (carries .flip (margin (pos 0) (lit< tt)));
+  no-translation = λ carries. false≢true (carries .flip (margin (pos 0)));
 }

@@ -1,4 +1,4 @@
-use Rattle.grade.proofs.CutLaws.{heard-carries}
+use Rattle.grade.proofs.HeardLaws.{heard-carries}
 use Rattle.grade.proofs.translation.voice.VoiceTranslation.the-impl.Needs as need
 
 pub carries-law : need.carries-law
