@@ -4,7 +4,7 @@ use crate::translation::Translation;
 use refusal::Refusal;
 
 pub fn carry<T: Translation>(t: &T, from: &[T::From], to: &mut [T::To]) -> Result<(), Refusal>
-    ensures { λ r. ⌜ Carried (T·Translation .map (now (t .entry))) (now (from .entry)) (now (to .entry)) (now (to .exit)) r ⌝ }
+    ensures { λ r. ⌜ Carried (map (now (t .entry))) (now (from .entry)) (now (to .entry)) (now (to .exit)) r ⌝ }
 {
     if from.len() != to.len() {
         return Err(Refusal::UnequalStrips);

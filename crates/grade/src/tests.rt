@@ -2,6 +2,8 @@ use crate::margin::MarginDebug;
 use crate::margin::MarginPartialEq;
 use crate::span::SpanDebug;
 use crate::span::SpanPartialEq;
+use crate::translation::voice::VoiceDebug;
+use crate::translation::voice::VoicePartialEq;
 use crate::*;
 use refusal::Refusal;
 use refusal::RefusalDebug;
@@ -68,8 +70,8 @@ fn sign_carries_margins() -> Result<(), Fail> {
 #[test]
 fn voices_are_counted_round() -> Result<(), Fail> {
     let words = Voices::new(0b10);
+    check_eq(Voice::new(17), Voice::new(1))?;
     check(Voice::new(17).translate(words))?;
-    check(Voice::new(1).translate(words))?;
     check(!Voice::new(0).translate(words))?;
     let ends = Ends {
         each: Voice::new(1),

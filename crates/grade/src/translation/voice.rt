@@ -7,7 +7,7 @@ use crate::voices::Voices;
 use crate::voices::graded::VoicesGrade;
 use crate::yes_no::YesNoGrade;
 
-#[derive(Clone, Copy)]
+#[derive(Clone, Copy, Debug, PartialEq, Eq)]
 pub struct Voice {
     bit: u8,
     ghost fits: { bit < 16 },
