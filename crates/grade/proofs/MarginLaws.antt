@@ -1,12 +1,11 @@
 -- Margins are a lattice with a flip: what the usual order of the integers gives.
-use mathlib.Core.Path.{_≡_, ap, _∙_}
+use mathlib.Core.Path.{_≡_, ap}
 use native.Mathlib.Omega.{arith}
 use Prim.Native.Nat.{_<_, _^_}
 use lib.IntN.{ℤ, pos, negsuc, _-ℤ_}
 use lib.Signed.{mag}
 use mir.Syntax.{w32}
 use mir.Val.{SFits}
-use Rattle.std.specs.Numbers.{saturated}
 use Rattle.std.proofs.shelf.Signed.{ints}
 use Rattle.grade.specs.Lattice.{Lawful}
 use Rattle.grade.specs.Margins.{margin, margins}

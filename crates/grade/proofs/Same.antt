@@ -1,7 +1,7 @@
 -- A margin is its value, and a word of voices is its bits: the fact that they fit has one proof.
 use mathlib.Core.Path.{_≡_}
 use mathlib.Core.HLevel.{isProp→PathP}
-use Prim.Native.Nat.{ℕ, _<_, _^_}
+use Prim.Native.Nat.{_<_, _^_}
 use native.Mathlib.Bridge.{le-prop}
 use lib.Signed.{mag}
 use Rattle.grade.specs.declared.margin.Margin.{Margin}

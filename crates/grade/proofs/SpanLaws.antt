@@ -1,6 +1,6 @@
 -- Spans over a lattice with a flip are one again, and a translation of their ends is a translation.
 use mathlib.Core.Path.{_≡_, ap₂, _∙_}
-use mathlib.Core.Bool.{Bool, true, false, _&&_}
+use mathlib.Core.Bool.{Bool, true, _&&_}
 use native.Mathlib.Omega.{arith}
 use Rattle.std.proofs.shelf.Tests.{and-parts, and-from}
 use Rattle.grade.specs.Lattice.{Lattice, Lawful}

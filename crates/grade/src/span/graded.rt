@@ -1,6 +1,5 @@
 // Spans of any grade as grades, end by end, and what is asked of one.
 ghost use mathlib.Core.Path.{_≡_};
-ghost use mathlib.Core.Bool.{true};
 ghost use Rattle.std.specs.Orderings.{Decides};
 ghost use Rattle.grade.specs.Spans.{spans, exact, unknown, encloses, lies-within};
 use super::Span;

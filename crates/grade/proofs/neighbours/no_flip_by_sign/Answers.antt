@@ -1,5 +1,4 @@
 use mathlib.Core.Path.{refl, ap}
-use Prim.Native.Nat.{_<_, _^_}
 use native.Mathlib.Omega.{arith}
 use lib.Signed.{mag}
 use Rattle.std.proofs.shelf.Tests.{true≢false}
