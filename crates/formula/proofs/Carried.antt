@@ -4,8 +4,8 @@ use Prim.Native.Nat.{ℕ, _+_, _≤_}
 use Rattle.grade.specs.Lattice.{Lattice}
 use Rattle.formula.specs.Formula.{Formula, horizon}
 use Rattle.formula.specs.Grades.{Trace, grade}
-use Rattle.formula.specs.Spans.{spans, exact}
-use Rattle.formula.specs.Translations.{Carries, by-ends}
+use Rattle.grade.specs.Spans.{spans, exact}
+use Rattle.grade.specs.Translations.{Carries, by-ends}
 use Rattle.formula.specs.Laws.{Translations-carry}
 use Rattle.formula.proofs.Related.{Keeps, related-by}
 

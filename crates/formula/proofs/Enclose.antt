@@ -4,7 +4,8 @@ use Prim.Native.Nat.{ℕ, _+_, _≤_}
 use Rattle.grade.specs.Lattice.{Lattice, Lawful}
 use Rattle.formula.specs.Formula.{Formula, horizon}
 use Rattle.formula.specs.Grades.{Trace, grade}
-use Rattle.formula.specs.Spans.{Span, spans, exact}
+use Rattle.grade.specs.Spans.{spans, exact}
+use Rattle.grade.specs.declared.span.Span.{Span}
 use Rattle.formula.specs.Laws.{Enclosure}
 use Rattle.formula.proofs.Related.{related-by}
 use Rattle.formula.proofs.Carried.{carried-exact, local}

@@ -7,7 +7,7 @@ use lib.Dec.{ltb}
 use borrow.Author.Tests.{ltb-true, ltb-false, lt-ltb}
 use Rattle.grade.specs.Lattice.{Lattice, Lawful}
 use Rattle.formula.specs.Grades.{Trace}
-use Rattle.formula.specs.Spans.{exact, unknown, encloses, lies-within}
+use Rattle.grade.specs.Spans.{exact, unknown, encloses, lies-within}
 use Rattle.formula.specs.Known.{known, Agree}
 use Rattle.formula.specs.Laws.{Narrowing}
 use Rattle.formula.proofs.YesNo.{and-both}

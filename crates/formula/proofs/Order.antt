@@ -3,7 +3,8 @@
 use mathlib.Core.Path.{_≡_, sym, _∙_}
 use mathlib.Core.Bool.{true}
 use Rattle.grade.specs.Lattice.{Lattice, Lawful}
-use Rattle.formula.specs.Spans.{Span, spans, encloses, lies-within}
+use Rattle.grade.specs.Spans.{spans, encloses, lies-within}
+use Rattle.grade.specs.declared.span.Span.{Span}
 use Rattle.formula.proofs.YesNo.{and-both, and-first, and-second}
 use Rattle.formula.proofs.Related.{Keeps}
 

@@ -8,7 +8,7 @@ use borrow.Author.Tests.{not-true, both-ways}
 use Rattle.std.proofs.shelf.Ways.{leb-tells}
 use Rattle.formula.specs.Formula.{Formula, always, hold, hold-off, both, either, not, then, within, horizon}
 use Rattle.formula.specs.Grades.{Trace, grade}
-use Rattle.formula.specs.YesNo.{yes-no}
+use Rattle.grade.specs.YesNo.{yes-no}
 use Rattle.formula.specs.Published.{Met, Stands}
 use Rattle.formula.specs.Laws.{Published-meaning}
 use Rattle.formula.proofs.YesNo.{and-both, and-first, and-second, or-left, or-right, or-one, all-of, all-in, some-of, some-in}

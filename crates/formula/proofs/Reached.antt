@@ -7,7 +7,8 @@ use borrow.Author.Tests.{lt-ltb}
 use Rattle.grade.specs.Lattice.{Lattice}
 use Rattle.formula.specs.Formula.{Formula}
 use Rattle.formula.specs.Grades.{Trace}
-use Rattle.formula.specs.Spans.{Span, spans, exact, unknown}
+use Rattle.grade.specs.Spans.{spans, exact, unknown}
+use Rattle.grade.specs.declared.span.Span.{Span}
 use Rattle.formula.specs.Known.{known, Agree}
 use Rattle.formula.specs.Sides.{reaches, One-sided, filled, worst, best}
 use Rattle.formula.specs.Laws.{Reached}

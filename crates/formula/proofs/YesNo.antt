@@ -6,7 +6,7 @@ use Prim.Native.Nat.{ℕ, zero, suc, _+_, _≤_, _<_}
 use native.Mathlib.Omega.{arith}
 use Rattle.std.proofs.shelf.Ways.{leb-tells}
 use Rattle.formula.specs.Grades.{meet-over, join-over}
-use Rattle.formula.specs.YesNo.{yes-no}
+use Rattle.grade.specs.YesNo.{yes-no}
 
 pub and-both : (a b : Bool) → a ≡ true → b ≡ true → (a && b) ≡ true
 and-both true b p q = q

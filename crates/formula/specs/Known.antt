@@ -5,7 +5,8 @@ use Prim.Native.Nat.{ℕ, _<_}
 use lib.Dec.{ltb}
 use Rattle.grade.specs.Lattice.{Lattice}
 use Rattle.formula.specs.Grades.{Trace}
-use Rattle.formula.specs.Spans.{Span, exact, unknown}
+use Rattle.grade.specs.Spans.{exact, unknown}
+use Rattle.grade.specs.declared.span.Span.{Span}
 
 -- The first n frames are known, and of the later ones nothing is.
 abbrev pub known : {V : Type 0} → Lattice V → ℕ → Trace V → Trace (Span V)

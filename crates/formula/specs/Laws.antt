@@ -6,12 +6,13 @@ use Prim.Native.Nat.{ℕ, _+_, _-_, _≤_, _<_}
 use Rattle.grade.specs.Lattice.{Lattice}
 use Rattle.formula.specs.Formula.{Formula, horizon}
 use Rattle.formula.specs.Grades.{Trace, grade}
-use Rattle.formula.specs.YesNo.{yes-no}
+use Rattle.grade.specs.YesNo.{yes-no}
 use Rattle.formula.specs.Published.{Met, Proper, Proper-inner}
-use Rattle.formula.specs.Spans.{Span, spans, exact, encloses, lies-within}
+use Rattle.grade.specs.Spans.{spans, exact, encloses, lies-within}
+use Rattle.grade.specs.declared.span.Span.{Span}
 use Rattle.formula.specs.Known.{known, Agree}
 use Rattle.formula.specs.Sides.{One-sided, worst, best}
-use Rattle.formula.specs.Translations.{Carries, by-ends}
+use Rattle.grade.specs.Translations.{Carries, by-ends}
 
 -- The grade over no and yes is the published meaning.
 pub record Published-meaning : Type 0 where

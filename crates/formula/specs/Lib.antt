@@ -1,10 +1,7 @@
 pub mod Formula
 pub mod Grades
-pub mod YesNo
 pub mod Published
-pub mod Spans
 pub mod Known
 pub mod Sides
-pub mod Translations
 pub mod Laws
 pub mod Neighbours

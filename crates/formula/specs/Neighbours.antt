@@ -7,7 +7,7 @@ use lib.ListN.{getD}
 use Rattle.grade.specs.Lattice.{Lattice}
 use Rattle.formula.specs.Formula.{Formula, hold, then, within, horizon}
 use Rattle.formula.specs.Grades.{Trace, grade, join-over}
-use Rattle.formula.specs.YesNo.{yes-no}
+use Rattle.grade.specs.YesNo.{yes-no}
 
 -- Wrong: the second part starts on the very frame on which the first ended.
 abbrev pub overlapping : {V : Type 0} → Lattice V → Trace V → Formula → Formula → ℕ → V

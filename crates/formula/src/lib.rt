@@ -1,8 +1,9 @@
 // Formulas: rules as trees, their grades, and what is true of them in every lattice of grades.
 // The trees are definitions that nothing runs; each function below promises one law of them.
-ghost use Rattle.formula.specs.Laws.{Published-meaning, Local, Enclosure, Narrowing, Ends-reached, Translations-carry};
+ghost use Rattle.formula.specs.Laws.{Published-meaning, Local, Enclosure, Narrowing, Ends-reached, Carries-grades};
 ghost use Rattle.formula.specs.Neighbours.{Neighbours-differ};
 use grade::Grade;
+use grade::Translation;
 
 // The grade over no and yes is the published meaning.
 pub fn published_meaning() -> u8
@@ -46,9 +47,9 @@ pub fn reaches_both_ends<G: Grade>() -> u8
     0
 }
 
-// Every translation from one lattice to another carries the grade.
-pub fn translations_carry<F: Grade, T: Grade>() -> u8
-    ensures { λ _. ⌜ Translations-carry (F·Grade .ops) (T·Grade .ops) ⌝ }
+// Every translation carries the grade, of values and of spans.
+pub fn translations_carry<T: Translation>() -> u8
+    ensures { λ _. ⌜ ((t : T) → Carries-grades (From·Grade .ops) (To·Grade .ops) (map t)) ⌝ }
 {
     0
 }
