@@ -22,8 +22,9 @@ if ! { cc "$sanitize" "$out/probe.c" -o "$out/probe" && "$out/probe"; } 2> /dev/
     sanitize=
 fi
 
-# $sanitize is one word or none
-cc -std=c11 -Wall -Wextra -Werror -O1 -g $sanitize c/check_main.c "$library" -o "$out/check_main"
+# what the library may call stands in the kit; $sanitize is one word or none
+support=$(dirname "$(dirname "$(rt doc)")")/lib/librattle_c.a
+cc -std=c11 -Wall -Wextra -Werror -O1 -g $sanitize c/check_main.c "$library" "$support" -o "$out/check_main"
 
 echo "the sheets that are built in:"
 "$out/check_main"

@@ -1,6 +1,6 @@
 -- Digits read back as the number that they were made from.
 use mathlib.Core.Path.{_≡_}
-use Prim.Native.Nat.{ℕ, _+_, _-_, _*_, _/_, _%_, _<_}
+use Prim.Native.Nat.{ℕ, _/_, _%_, _<_}
 use native.Mathlib.Omega.{arith}
 use Rattle.std.proofs.shelf.Ways.{tells}
 use Rattle.report.specs.Texts.{digit, digit-value, value-from, two-digits, three-digits, four-hex}

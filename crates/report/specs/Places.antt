@@ -8,7 +8,8 @@ use Rattle.std.specs.declared.result.Result.{Result}
 use Rattle.refusal.specs.declared.Refusal.{Refusal}
 use Rattle.refusal.specs.declared.Refusal.the-variants.{Place}
 
--- The text stands at the front and the rest is as before, where it is granted; else nothing is changed.
+-- Ok says that it was granted: the answer is the text's length, the text stands at the front, and the rest is as before.
+-- Err says that it was not: the refusal is Place, and nothing is changed.
 abbrev pub Written-into : List ℕ → Type 0 → List ℕ → List ℕ → Result ℕ Refusal → Type 0
 Written-into text granted before after r =
     Cases r

@@ -23,18 +23,19 @@ two-hex n = digit (n / 16) ∷ digit (n % 16) ∷ []
 abbrev pub four-hex : ℕ → List ℕ
 four-hex n = two-hex (n / 256) ++ two-hex (n % 256)
 
--- refused NN RR
+-- `refused NN RR`, the number and the row
 abbrev pub notice-text : ℕ → ℕ → List ℕ
 notice-text number row = codes "refused " ++ (two-digits number ++ (codes " " ++ (two-digits row ++ codes "\n")))
 
--- whether two ends leave a count open
+-- two ends that are equal are shut
 abbrev pub state-text : ℕ → ℕ → List ℕ
 state-text low high = cond (eqb low high) (codes "shut") (codes "open")
 
--- CCC LLLL HHHH open, or shut
+-- `CCC LLLL HHHH open`, or `shut`: the count, the low and the high end. No abbrev, so that goals show it by its name
 unfoldable pub line-text : ℕ → ℕ → ℕ → List ℕ
 line-text count low high = three-digits count ++ (codes " " ++ (four-hex low ++ (codes " " ++ (four-hex high ++ (codes " " ++ (state-text low high ++ codes "\n"))))))
 
+-- the texts at some values
 abbrev pub Examples : Type 0
 Examples =
     (notice-text 4 2 ≡ codes "refused 04 02\n")
@@ -53,7 +54,7 @@ abbrev pub value-from : ℕ → ℕ → List ℕ → ℕ
 value-from base v [] = v
 value-from base v (c ∷ cs) = value-from base (v * base + digit-value c) cs
 
--- the digits of a number that has room read back as that number
+-- the digits of a number that has room are worth that number
 abbrev pub Read-back : Type 0
 Read-back =
     ((n : ℕ) → n < 100 → value-from 10 0 (two-digits n) ≡ n)

@@ -1,6 +1,6 @@
 // The two texts of fixed form, written into a lent place.
 ghost use mathlib.Core.Path.{_≡_};
-ghost use Prim.Native.Nat.{ℕ, _<_, _≤_};
+ghost use Prim.Native.Nat.{_<_, _≤_};
 ghost use lib.ListN.{length};
 ghost use Rattle.report.specs.Places.{Written-into};
 ghost use Rattle.report.specs.Texts.{digit, two-digits, three-digits, two-hex, four-hex, state-text, notice-text, line-text};
@@ -111,7 +111,7 @@ pub fn line(place: &mut [u8], count: u16, low: u16, high: u16) -> Result<usize, 
     write(place, &line_bytes(count, low, high))
 }
 
-// The texts at examples, that each has one size, and that its digits read back as the numbers.
+// Of the texts themselves: some examples, that each has one size, and that digits read back as their number.
 fn texts_stand()
     ensures examples { λ _. ⌜ Examples ⌝ }
     ensures sizes { λ _. ⌜ Sizes ⌝ }
