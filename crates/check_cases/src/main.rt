@@ -58,22 +58,39 @@ mod tests {
     #[test]
     fn only_a_then_is_too_long() -> Result<(), Fail> {
         check_eq(answer(&[1, 3, 1, 1, 6, 127, 0, 0, 127, 0, 0, 0, 1, 0]), 0)?;
-        check_eq(answer(&[1, 3, 1, 1, 6, 127, 0, 0, 128, 0, 0, 0, 1, 0]), 1026)
+        check_eq(
+            answer(&[1, 3, 1, 1, 6, 127, 0, 0, 128, 0, 0, 0, 1, 0]),
+            1026,
+        )
     }
 
     #[test]
     fn an_inner_either_has_equal_sides() -> Result<(), Fail> {
         check_eq(answer(&[1, 3, 1, 1, 4, 0, 0, 0, 1, 0, 0, 0, 1, 0]), 0)?;
-        check_eq(answer(&[1, 4, 1, 1, 4, 7, 0, 0, 0, 1, 0, 0, 0, 1, 0, 0, 1, 2]), 256 * 6 + 2)?;
-        check_eq(answer(&[1, 4, 1, 1, 4, 7, 1, 0, 0, 1, 0, 0, 0, 1, 0, 0, 1, 2]), 0)
+        check_eq(
+            answer(&[1, 4, 1, 1, 4, 7, 0, 0, 0, 1, 0, 0, 0, 1, 0, 0, 1, 2]),
+            256 * 6 + 2,
+        )?;
+        check_eq(
+            answer(&[1, 4, 1, 1, 4, 7, 1, 0, 0, 1, 0, 0, 0, 1, 0, 0, 1, 2]),
+            0,
+        )
     }
 
     #[test]
     fn a_fact_held_on_and_off_is_two_sided() -> Result<(), Fail> {
         let mut sheet = Sheet::new();
-        check(sheet.load(&[1, 3, 1, 2, 3, 0, 0, 0, 0, 0, 0, 0, 1, 0]).is_ok())?;
+        check(
+            sheet
+                .load(&[1, 3, 1, 2, 3, 0, 0, 0, 0, 0, 0, 0, 1, 0])
+                .is_ok(),
+        )?;
         check(!sheet.sided())?;
-        check(sheet.load(&[1, 4, 1, 2, 5, 3, 0, 0, 0, 0, 0, 0, 1, 0, 0, 0, 2, 0]).is_ok())?;
+        check(
+            sheet
+                .load(&[1, 4, 1, 2, 5, 3, 0, 0, 0, 0, 0, 0, 1, 0, 0, 0, 2, 0])
+                .is_ok(),
+        )?;
         check(sheet.sided())
     }
 

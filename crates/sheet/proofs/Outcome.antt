@@ -81,12 +81,12 @@ module _ (b : Body) (k : ℕ) where
     why-row r h = ⊎-elim
         (λ t. subst (λ x. Refused-for bytes x k) (some-is (sym (cond-true _ _ _ t) ∙ h)) (come, λ kind. omega (arith, leb-true 8 _ t, kind)))
         (λ f. let kind = leb-false 8 (kind-in b k) f in let h₁ = sym (cond-false _ _ _ f) ∙ h in ⊎-elim
-            (λ t₂. let h₂ = sym (cond-true _ _ _ t₂) ∙ h₁ in ⊎-elim
-                (λ t₃. absurd (none-some (sym (cond-true _ _ _ t₃) ∙ h₂)))
-                (λ f₃. subst (λ x. Refused-for bytes x k) (some-is (sym (cond-false _ _ _ f₃) ∙ h₂)) (come, kind, operands-test t₂, λ short. omega (arith, leb-false _ 255 f₃, short)))
-                (cases-bool (leb (length-of (row-in b) k) 255)))
-            (λ f₂. subst (λ x. Refused-for bytes x k) (some-is (sym (cond-false _ _ _ f₂) ∙ h₁)) (come, kind, λ o. both-ways _ f₂ (test-operands o)))
-            (cases-bool (operands-right (b .facts) k (row-in b k) (operands-in b k))))
+        (λ t₂. let h₂ = sym (cond-true _ _ _ t₂) ∙ h₁ in ⊎-elim
+        (λ t₃. absurd (none-some (sym (cond-true _ _ _ t₃) ∙ h₂)))
+        (λ f₃. subst (λ x. Refused-for bytes x k) (some-is (sym (cond-false _ _ _ f₃) ∙ h₂)) (come, kind, operands-test t₂, λ short. omega (arith, leb-false _ 255 f₃, short)))
+        (cases-bool (leb (length-of (row-in b) k) 255)))
+        (λ f₂. subst (λ x. Refused-for bytes x k) (some-is (sym (cond-false _ _ _ f₂) ∙ h₁)) (come, kind, λ o. both-ways _ f₂ (test-operands o)))
+        (cases-bool (operands-right (b .facts) k (row-in b k) (operands-in b k))))
         (cases-bool (leb 8 (kind-in b k)))
 
   -- operand i of row k stands at its place
@@ -122,8 +122,8 @@ module _ (bytes : List ℕ) (b : Body) (sized : Sized bytes b) (rows : (j : ℕ)
   unfolding all
   why-inner names r k l = ⊎-elim
       (λ t. let both = and-parts (is-inner (row-in b) (b .count) k) (not (may-be-inner (length-of (row-in b)) (row-in b k))) t in
-          subst (λ x. Refused-for bytes x k) (some-is (sym (cond-true _ _ _ t) ∙ l .here))
-          (all, names, l .among, (λ fits. both-ways _ (not-true _ (both .1)) (fits (inner-sound (row-in b) (b .count) k (both .0)))), λ j lt. inner-fits j (omega (arith, l .among)) (l .before j lt)))
+      subst (λ x. Refused-for bytes x k) (some-is (sym (cond-true _ _ _ t) ∙ l .here))
+      (all, names, l .among, (λ fits. both-ways _ (not-true _ (both .1)) (fits (inner-sound (row-in b) (b .count) k (both .0)))), λ j lt. inner-fits j (omega (arith, l .among)) (l .before j lt)))
       (λ f. absurd (none-some (sym (cond-false _ _ _ f) ∙ l .here)))
       (cases-bool (is-inner (row-in b) (b .count) k && not (may-be-inner (length-of (row-in b)) (row-in b k))))
 
@@ -151,9 +151,9 @@ module _ (bytes : List ℕ) (b : Body) (sized : Sized bytes b) (rows : (j : ℕ)
       let n = length-rows (row-in b) 0 (b .count) in
       written-all rows-in (b .rest) (sized .all ∙ ap (λ m. 4 * m) (sym n))
       (λ k h. let among : k < b .count = omega arith in
-          sym (ap kind-of (ap (λ f. f k) rows-in-are ∙ row-in-below b k among) ∙ kind-back (p-in b k) (q-in b k) (r-in b k) (kind-in b k) (rows k among .kind)))
+      sym (ap kind-of (ap (λ f. f k) rows-in-are ∙ row-in-below b k among) ∙ kind-back (p-in b k) (q-in b k) (r-in b k) (kind-in b k) (rows k among .kind)))
       (λ k i h lt. let among : k < b .count = omega arith in
-          ap (λ m. getD (b .rest) (m + (3 * k + i)) 0) n ∙ sym (operand-at b k i lt) ∙ ap (λ l. getD l i 0) (sym (rows k among .operands .0)) ∙ ap (λ f. getD (operands-of (f k)) i 0) (sym rows-in-are))
+      ap (λ m. getD (b .rest) (m + (3 * k + i)) 0) n ∙ sym (operand-at b k i lt) ∙ ap (λ l. getD l i 0) (sym (rows k among .operands .0)) ∙ ap (λ f. getD (operands-of (f k)) i 0) (sym rows-in-are))
 
   pub is-kept : Rows-named (b .count) (row-in b) → ((k : ℕ) → k < b .count → Inner-fits b k) → Keeps (record { facts = b .facts; rows = rows-in })
   is-kept names fits =
@@ -210,24 +210,25 @@ module _ (facts count : ℕ) (rest : List ℕ) (h : sizes-right (body-of facts c
   outcome-rows : Outcome the-bytes (judged the-body)
   outcome-rows = ⊎-elim
       (λ fine.
-          let rows : (j : ℕ) → j < count → Row-right the-body j = λ j lt. row-right the-body j (fine j lt) in
-          ⊎-elim
-          (λ names.
-              let named-rows = all-named (row-in the-body) count names in
-              ⊎-elim
-              (λ inners. subst (Outcome the-bytes) (judged-sheet the-body h fine names inners)
-                  (is-sheet _ (λ i. facts ∷ length-rows (row-in the-body) 0 count i ∷ written-again the-bytes the-body sized-body rows i)
-                  (is-kept the-bytes the-body sized-body rows named-rows (inner-right (row-in the-body) count (lower-rows the-bytes the-body sized-body rows) inners))))
-              (λ wrong. subst (Outcome the-bytes) (sym (judged-any-inner fine names wrong)) (is-refused (wrong .0) (wrong .1) (why-inner the-bytes the-body sized-body rows named-rows (wrong .0) (wrong .1) (wrong .2))))
-              (search-fault (inner-fault count (row-in the-body)) count))
-          (λ wrong. subst (Outcome the-bytes) (sym (judged-any-name fine wrong)) (is-refused (wrong .0) (wrong .1) (why-name the-bytes the-body sized-body rows (wrong .0) (wrong .1) (wrong .2))))
-          (search-fault (name-fault count (row-in the-body)) (count - 1)))
+      let rows : (j : ℕ) → j < count → Row-right the-body j = λ j lt. row-right the-body j (fine j lt) in
+      ⊎-elim
+      (λ names.
+      let named-rows = all-named (row-in the-body) count names in
+      ⊎-elim
+      (λ inners. subst (Outcome the-bytes) (judged-sheet the-body h fine names inners)
+      (is-sheet _ (λ i. facts ∷ length-rows (row-in the-body) 0 count i ∷ written-again the-bytes the-body sized-body rows i)
+      (is-kept the-bytes the-body sized-body rows named-rows (inner-right (row-in the-body) count (lower-rows the-bytes the-body sized-body rows) inners))))
+      (λ wrong. subst (Outcome the-bytes) (sym (judged-any-inner fine names wrong)) (is-refused (wrong .0) (wrong .1) (why-inner the-bytes the-body sized-body rows named-rows (wrong .0) (wrong .1) (wrong .2))))
+      (search-fault (inner-fault count (row-in the-body)) count))
+      (λ wrong. subst (Outcome the-bytes) (sym (judged-any-name fine wrong)) (is-refused (wrong .0) (wrong .1) (why-name the-bytes the-body sized-body rows (wrong .0) (wrong .1) (wrong .2))))
+      (search-fault (name-fault count (row-in the-body)) (count - 1)))
       (λ wrong. subst (Outcome the-bytes) (judged-row the-body h (wrong .0) (wrong .1) (wrong .2))
-          (is-refused (wrong .0) (wrong .1) (why-row the-body (wrong .1) the-bytes sized-body (wrong .2 .among) (λ j lt. row-right the-body j (wrong .2 .before j lt)) (wrong .0) (wrong .2 .here))))
+      (is-refused (wrong .0) (wrong .1) (why-row the-body (wrong .1) the-bytes sized-body (wrong .2 .among) (λ j lt. row-right the-body j (wrong .2 .before j lt)) (wrong .0) (wrong .2 .here))))
       (search-fault (row-fault the-body) count)
     where
       judged-any-name : Faultless (row-fault the-body) count → (wrong : (r : Refusal) × (k : ℕ) × Lowest (name-fault count (row-in the-body)) (count - 1) r k) → judged the-body ≡ refused (number-of (wrong .0)) (wrong .1)
       judged-any-name fine wrong = cond-true _ _ _ h ∙ lowest-none (row-fault the-body) count _ fine ∙ lowest-found (name-fault count (row-in the-body)) (count - 1) _ (wrong .0) (wrong .1) (wrong .2)
+
       judged-any-inner : Faultless (row-fault the-body) count → Faultless (name-fault count (row-in the-body)) (count - 1) → (wrong : (r : Refusal) × (k : ℕ) × Lowest (inner-fault count (row-in the-body)) count r k) → judged the-body ≡ refused (number-of (wrong .0)) (wrong .1)
       judged-any-inner fine names wrong = cond-true _ _ _ h ∙ lowest-none (row-fault the-body) count _ fine ∙ lowest-none (name-fault count (row-in the-body)) (count - 1) _ names ∙ lowest-found (inner-fault count (row-in the-body)) count _ (wrong .0) (wrong .1) (wrong .2)
 
@@ -323,8 +324,8 @@ module _ (w : Written) (keeps : Keeps w) where
   own-row : (k : ℕ) → row-in own-body k ≡ row-at (w .rows) k
   own-row k = ⊎-elim
       (λ h. row-in-below own-body k h
-          ∙ (λ i. getD (kinds (own-p k h i) (own-operand k 1 h (omega arith) i) (own-operand k 2 h (omega arith) i)) (written-kind (w .rows) k h i) Always)
-          ∙ read-back (row-at (w .rows) k))
+      ∙ (λ i. getD (kinds (own-p k h i) (own-operand k 1 h (omega arith) i) (own-operand k 2 h (omega arith) i)) (written-kind (w .rows) k h i) Always)
+      ∙ read-back (row-at (w .rows) k))
       (λ h. past-rows own-body k h ∙ sym (getD-past (w .rows) k Always h))
       (cases-lt k (length (w .rows)))
 

@@ -152,10 +152,10 @@ module _ (b : Body) (k : ℕ) (few : k < 32) where
       let lower = lengths-of (row-in b) k in
       let next = row-length (λ i. getD lower i 0) (row-in b k) in
       let entry : (j : ℕ) → getD (set lens k v) j 0 ≡ getD (lengths-of (row-in b) (suc k)) j 0 =
-          λ j. ⊎-elim
-          (λ same. ap (λ i. getD (set lens k v) i 0) same ∙ getD-set-same lens k v 0 (omega (arith, m .size)) ∙ e ∙ ap (λ i. getD (lengths-of (row-in b) (suc k)) i 0) (sym same))
-          (λ other. getD-set-other lens k j v 0 other ∙ m .entry j ∙ push-other lower next j (length-lengths (row-in b) k) other)
-          (cases-eq j k) in
+      λ j. ⊎-elim
+      (λ same. ap (λ i. getD (set lens k v) i 0) same ∙ getD-set-same lens k v 0 (omega (arith, m .size)) ∙ e ∙ ap (λ i. getD (lengths-of (row-in b) (suc k)) i 0) (sym same))
+      (λ other. getD-set-other lens k j v 0 other ∙ m .entry j ∙ push-other lower next j (length-lengths (row-in b) k) other)
+      (cases-eq j k) in
       record {
         size = length-set lens k v ∙ m .size;
         entry = λ j. entry j ∙ ap (λ n. getD (lengths-of (row-in b) n) j 0) (sym (add-one k));

@@ -92,12 +92,12 @@ module _ (rows : List Row) where
       ⊎-elim
       (λ less. written-kind n less ∙ sym (kinds-are n less))
       (λ more.
-          let k = (n - length rows) / 3 in
-          let i = (n - length rows) % 3 in
-          let place : length rows + (3 * k + i) ≡ n = omega arith in
-          let row : k < length rows = omega arith in
-          let third : i < 3 = omega arith in
-          ap (λ m. getD (map kind-of rows ++ joined operands-of rows) m 0) (sym place) ∙ written-operand k i row third ∙ sym (operands-are k i row third) ∙ ap (λ m. getD rest m 0) place)
+      let k = (n - length rows) / 3 in
+      let i = (n - length rows) % 3 in
+      let place : length rows + (3 * k + i) ≡ n = omega arith in
+      let row : k < length rows = omega arith in
+      let third : i < 3 = omega arith in
+      ap (λ m. getD (map kind-of rows ++ joined operands-of rows) m 0) (sym place) ∙ written-operand k i row third ∙ sym (operands-are k i row third) ∙ ap (λ m. getD rest m 0) place)
       (cases-lt n (length rows)))
 
 pub same-true : (xs ys : List ℕ) → same xs ys ≡ true → xs ≡ ys

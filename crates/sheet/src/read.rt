@@ -40,14 +40,27 @@ fn read_row(facts: u8, at: u8, kind: u8, p: u8, q: u8, r: u8) -> Result<Row, Ref
 }
 
 // Row k with its length, where `lengths` has those of the lower rows.
-fn read_at(facts: u8, count: u8, rest: &[u8], k: u8, lengths: &[u8; 32]) -> Result<(Row, u8), Refusal>
+fn read_at(
+    facts: u8,
+    count: u8,
+    rest: &[u8],
+    k: u8,
+    lengths: &[u8; 32],
+) -> Result<(Row, u8), Refusal>
     requires sizes { ⌜ sizes-right (body-of facts count (now rest)) ≡ true ⌝ }
     requires within { ⌜ k < count ⌝ }
     requires measured { ⌜ Measures (body-of facts count (now rest)) k (now lengths) ⌝ }
     ensures { λ o. ⌜ Row-read (body-of facts count (now (rest .entry))) k o ⌝ }
 {
     let at = count as usize + 3 * k as usize;
-    let row = read_row(facts, k, rest[k as usize], rest[at], rest[at + 1], rest[at + 2])?;
+    let row = read_row(
+        facts,
+        k,
+        rest[k as usize],
+        rest[at],
+        rest[at + 1],
+        rest[at + 2],
+    )?;
     match u8::try_from(row.length(k, lengths)) {
         Ok(length) => Ok((row, length)),
         Err(_) => Err(Refusal::Length),

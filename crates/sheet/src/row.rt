@@ -34,13 +34,23 @@ impl Row {
     {
         match kind {
             0 => Some(Row::Always),
-            1 => Some(Row::Hold { duration: p, fact: q }),
-            2 => Some(Row::HoldOff { duration: p, fact: q }),
+            1 => Some(Row::Hold {
+                duration: p,
+                fact: q,
+            }),
+            2 => Some(Row::HoldOff {
+                duration: p,
+                fact: q,
+            }),
             3 => Some(Row::Both { left: p, right: q }),
             4 => Some(Row::Either { left: p, right: q }),
             5 => Some(Row::Not { row: p }),
             6 => Some(Row::Then { left: p, right: q }),
-            7 => Some(Row::Within { from: p, to: q, row: r }),
+            7 => Some(Row::Within {
+                from: p,
+                to: q,
+                row: r,
+            }),
             _ => None,
         }
     }
@@ -51,7 +61,11 @@ impl Row {
         match self {
             Row::Always => [0, 0, 0],
             Row::Hold { duration, fact } | Row::HoldOff { duration, fact } => [duration, fact, 0],
-            Row::Both { left, right } | Row::Either { left, right } | Row::Then { left, right } => [left, right, 0],
+            Row::Both { left, right } | Row::Either { left, right } | Row::Then { left, right } => [
+                left,
+                right,
+                0,
+            ],
             Row::Not { row } => [row, 0, 0],
             Row::Within { from, to, row } => [from, to, row],
         }
@@ -64,7 +78,8 @@ impl Row {
         match self {
             Row::Always => true,
             Row::Hold { fact, .. } | Row::HoldOff { fact, .. } => fact < facts,
-            Row::Both { left, right } | Row::Either { left, right } | Row::Then { left, right } => left < at && right < at,
+            Row::Both { left, right } | Row::Either { left, right } | Row::Then { left, right } =>
+                left < at && right < at,
             Row::Not { row } => row < at,
             Row::Within { from, to, row } => row < at && from <= to,
         }
@@ -82,7 +97,9 @@ impl Row {
                 u16::from(lengths[left as usize].max(lengths[right as usize]))
             }
             Row::Not { row } => u16::from(lengths[row as usize]),
-            Row::Then { left, right } => u16::from(lengths[left as usize]) + u16::from(lengths[right as usize]) + 1,
+            Row::Then { left, right } => u16::from(lengths[left as usize])
+                + u16::from(lengths[right as usize])
+                + 1,
             Row::Within { to, .. } => u16::from(to),
         }
     }

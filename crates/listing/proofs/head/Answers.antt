@@ -9,4 +9,4 @@ pub returns : need.returns
 returns c =
     made-weaker (c .format .result) _ _
     (λ t e. e ∙ ap (λ way. codes "facts " ++ (decimal (c .args .facts) ++ (codes ", rows " ++ (decimal (c .args .rows) ++ (codes ", length " ++ (decimal (c .args .length) ++ (codes ", " ++ (way ++ codes "\n")))))))) (c .sides-way .ensures))
-     (c .format .ensures .made)
+    (c .format .ensures .made)

@@ -9,4 +9,4 @@ pub returns : need.returns
 returns c =
     made-weaker (c .format .result) _ _
     (λ t e. e ∙ ap (λ asked. decimal (c .args .k) ++ (codes "  " ++ (asked ++ (codes ", length " ++ (decimal (c .args .length) ++ codes "\n"))))) (c .as-str-asked .ensures .value ∙ c .in-Continue-text .ensures tt))
-     (c .format .ensures .made)
+    (c .format .ensures .made)

@@ -25,6 +25,6 @@ returns c =
     let all : c .loop-k .k ≡ length (w .rows) = omega (arith, ap length rows, c .loop-k .kept .k-end) in
     let front = c .in-Continue-text .ensures tt ∙ (λ i. head-line (c .facts .ensures i) (length (rows i)) (c .length .ensures i) (c .args .sided)) in
     let lines =
-        (λ i. lines-of (row-at (rows i)) (λ k. getD lengths k 0) (all i))
-        ∙ lines-by (row-at (w .rows)) (λ k. getD lengths k 0) (length-of (row-at (w .rows))) (length (w .rows)) (λ k h. c .lengths-lengths .ensures .each k (omega (arith, c .lengths-lengths .ensures .count))) in
+    (λ i. lines-of (row-at (rows i)) (λ k. getD lengths k 0) (all i))
+    ∙ lines-by (row-at (w .rows)) (λ k. getD lengths k 0) (length-of (row-at (w .rows))) (length (w .rows)) (λ k h. c .lengths-lengths .ensures .each k (omega (arith, c .lengths-lengths .ensures .count))) in
     c .loop-k .inv ∙ (λ i. front i ++ lines i)

@@ -27,16 +27,30 @@ fn read_sheet(facts: u8, count: u8, rest: &[u8]) -> Result<Sheet, Fault>
     ensures { λ r. ⌜ judged-as r ≡ judged (body-of facts count (now (rest .entry))) ⌝ }
 {
     if !sizes_right(facts, count, rest) {
-        return Err(Fault { refusal: Refusal::Sizes, row: 0 });
+        return Err(Fault {
+            refusal: Refusal::Sizes,
+            row: 0,
+        });
     }
     let (rows, lengths) = read_rows(facts, count, rest)?;
     if let Some(row) = first_unnamed(&rows, count) {
-        return Err(Fault { refusal: Refusal::Unnamed, row });
+        return Err(Fault {
+            refusal: Refusal::Unnamed,
+            row,
+        });
     }
     if let Some(row) = first_wrong_inner(&rows, &lengths, count) {
-        return Err(Fault { refusal: Refusal::Inner, row });
+        return Err(Fault {
+            refusal: Refusal::Inner,
+            row,
+        });
     }
-    Ok(Sheet { facts, count, rows, lengths })
+    Ok(Sheet {
+        facts,
+        count,
+        rows,
+        lengths,
+    })
 }
 
 impl Sheet {
@@ -49,7 +63,10 @@ impl Sheet {
         ensures refuses { λ r. ⌜ ((f : Fault) → (r ≡ Err f) ↔ Refused-for (now (bytes .entry)) (f .refusal) (f .row)) ⌝ }
     {
         let [facts, rows, rest @ ..] = bytes else {
-            return Err(Fault { refusal: Refusal::Sizes, row: 0 });
+            return Err(Fault {
+                refusal: Refusal::Sizes,
+                row: 0,
+            });
         };
         *self = read_sheet(*facts, *rows, rest)?;
         Ok(())

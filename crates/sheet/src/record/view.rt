@@ -12,7 +12,12 @@ impl Sheet {
     pub fn new() -> Sheet
         ensures { λ r. ⌜ sheet-of r ≡ smallest ⌝ }
     {
-        Sheet { facts: 1, count: 1, rows: [Row::Always; 32], lengths: [0; 32] }
+        Sheet {
+            facts: 1,
+            count: 1,
+            rows: [Row::Always; 32],
+            lengths: [0; 32],
+        }
     }
 
     // How many facts a frame has.

@@ -23,15 +23,16 @@ loop-k-again c =
     let within : i < c .args .count = omega (arith, c .loop-k .inv .0, c .loop-k-test .taken) in
     let before = subst (λ k. Named-sweep row (c .args .count) k (c .loop-k .named) (c .loop-k .found)) up (c .loop-k .inv .1) in
     let After : Option ℕ → Type 0 = λ o. Named-sweep row (c .args .count) i (c .raise-named .last .flags) o in
-    let raised = c .raise-named .ensures in
-    (omega (arith, c .loop-k .inv .0),
-    elim (c .if-not-named-k .came) [
-      then-not-named-k·then-k-count w ↦ subst After (sym (w .found-is)) (named-missing row _ (c .pre .lower) i within _ _ before _ raised (w .if-not-named-k .taken) (w .if-k-count .taken))
-    | else-not-named-k w ↦ subst After (sym (w .found-is)) (elim (w .else-not-named-k .came) [
-        else-not-named-k·by·then-not-named-k·else-k-count w′ ↦ named-last row _ (c .pre .lower) i within _ _ before _ raised (w′ .if-k-count .left)
-      | else-not-named-k·by·else-not-named-k w′ ↦ named-fine row _ (c .pre .lower) i within _ _ before _ raised (w′ .if-not-named-k .left)
-      ])
-    ])
+    let raised = c .raise-named .ensures in (
+      omega (arith, c .loop-k .inv .0),
+      elim (c .if-not-named-k .came) [
+        | then-not-named-k·then-k-count w ↦ subst After (sym (w .found-is)) (named-missing row _ (c .pre .lower) i within _ _ before _ raised (w .if-not-named-k .taken) (w .if-k-count .taken))
+        | else-not-named-k w ↦ subst After (sym (w .found-is)) (elim (w .else-not-named-k .came) [
+          | else-not-named-k·by·then-not-named-k·else-k-count w′ ↦ named-last row _ (c .pre .lower) i within _ _ before _ raised (w′ .if-k-count .left)
+          | else-not-named-k·by·else-not-named-k w′ ↦ named-fine row _ (c .pre .lower) i within _ _ before _ raised (w′ .if-not-named-k .left)
+        ])
+      ],
+    )
 
 pub returns : need.returns
 returns c =

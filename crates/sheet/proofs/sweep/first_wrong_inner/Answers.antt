@@ -28,15 +28,16 @@ loop-k-again c =
     let before = subst (λ k. Inner-sweep row (c .args .count) k (c .loop-k .inner) (c .loop-k .found)) up (c .loop-k .inv .1) in
     let After : Option ℕ → Type 0 = λ o. Inner-sweep row (c .args .count) i (c .raise-inner .last .flags) o in
     let raised = c .raise-inner .ensures in
-    let lens = ap (λ len. may-be-inner len (row i)) (fun-ext (c .pre .measured)) in
-    (omega (arith, c .loop-k .inv .0),
-    elim (c .if-is-inner .came) [
-      then-is-inner·then-not-may-be-inner w ↦ subst After (sym (w .found-is)) (inner-wrong row _ (c .pre .ordered .lower) i within _ _ before _ raised (w .if-is-inner .taken) (sym lens ∙ sym (w .if-not-may-be-inner .ensures tt)))
-    | else-is-inner w ↦ subst After (sym (w .found-is)) (elim (w .else-is-inner .came) [
-        else-is-inner·by·then-is-inner·else-not-may-be-inner w′ ↦ inner-fine row _ (c .pre .ordered .lower) i within _ _ before _ raised (λ _. sym lens ∙ sym (w′ .if-not-may-be-inner .ensures tt))
-      | else-is-inner·by·else-is-inner w′ ↦ inner-outer row _ (c .pre .ordered .lower) i within _ _ before _ raised (w′ .if-is-inner .left)
-      ])
-    ])
+    let lens = ap (λ len. may-be-inner len (row i)) (fun-ext (c .pre .measured)) in (
+      omega (arith, c .loop-k .inv .0),
+      elim (c .if-is-inner .came) [
+        | then-is-inner·then-not-may-be-inner w ↦ subst After (sym (w .found-is)) (inner-wrong row _ (c .pre .ordered .lower) i within _ _ before _ raised (w .if-is-inner .taken) (sym lens ∙ sym (w .if-not-may-be-inner .ensures tt)))
+        | else-is-inner w ↦ subst After (sym (w .found-is)) (elim (w .else-is-inner .came) [
+          | else-is-inner·by·then-is-inner·else-not-may-be-inner w′ ↦ inner-fine row _ (c .pre .ordered .lower) i within _ _ before _ raised (λ _. sym lens ∙ sym (w′ .if-not-may-be-inner .ensures tt))
+          | else-is-inner·by·else-is-inner w′ ↦ inner-outer row _ (c .pre .ordered .lower) i within _ _ before _ raised (w′ .if-is-inner .left)
+        ])
+      ],
+    )
 
 pub returns : need.returns
 returns c =

@@ -75,13 +75,37 @@ ghost-result c =
     let count = c .args .count in
     let same = rows-are (body i) _ _ (s .few-rows) a in
     let taken = sym (taken-are (body i) _ _ (s .few-rows) a) in
-    let lower = rows-lower (body i) _ _ (s .few-rows) a in
-    (a .size, (a .lengths .size, (s .some-fact, (s .few-facts, (s .some-row, (s .few-rows,
-    (subst (Rows-right (c .args .facts) count) taken (right (body i) _ _ (s .few-rows) a),
-    (subst (Rows-short count) taken (short (body i) _ _ (s .few-rows) a),
-    (subst (Rows-named count) taken (all-named _ count (subst (λ f. Faultless (name-fault count f) (count - 1)) same (c .in-rest .ensures tt))),
-    (subst (Inner-right count) taken (inner-right _ count lower (subst (λ f. Faultless (inner-fault count f) count) same (c .in-rest-first-wrong-inner .ensures tt))),
-    (λ k h. lengths-are (body i) _ _ (s .few-rows) a k ∙ ap (λ f. length-of f k) taken, tt)))))))))))
+    let lower = rows-lower (body i) _ _ (s .few-rows) a in (
+      a .size,
+      (
+        a .lengths .size,
+        (
+          s .some-fact,
+          (
+            s .few-facts,
+            (
+              s .some-row,
+              (
+                s .few-rows,
+                (
+                  subst (Rows-right (c .args .facts) count) taken (right (body i) _ _ (s .few-rows) a),
+                  (
+                    subst (Rows-short count) taken (short (body i) _ _ (s .few-rows) a),
+                    (
+                      subst (Rows-named count) taken (all-named _ count (subst (λ f. Faultless (name-fault count f) (count - 1)) same (c .in-rest .ensures tt))),
+                      (
+                        subst (Inner-right count) taken (inner-right _ count lower (subst (λ f. Faultless (inner-fault count f) count) same (c .in-rest-first-wrong-inner .ensures tt))),
+                        (λ k h. lengths-are (body i) _ _ (s .few-rows) a k ∙ ap (λ f. length-of f k) taken, tt),
+                      ),
+                    ),
+                  ),
+                ),
+              ),
+            ),
+          ),
+        ),
+      ),
+    )
 
 pub returns : need.returns
 unfolding body
@@ -92,6 +116,6 @@ returns c =
     let count = c .args .count in
     let same = rows-are (body i) _ _ (s .few-rows) a in
     let all : take count (c .in-Continue-rows .rows) ≡ rows-from (row-in (body i)) 0 count =
-        sym (rows-again (take count (c .in-Continue-rows .rows)) (row-in (body i)) count (length-take-le count (c .in-Continue-rows .rows) (omega (arith, a .size, s .few-rows))) (λ j h. getD-take count (c .in-Continue-rows .rows) j Always h ∙ a .row j)) in
+    sym (rows-again (take count (c .in-Continue-rows .rows)) (row-in (body i)) count (length-take-le count (c .in-Continue-rows .rows) (omega (arith, a .size, s .few-rows))) (λ j h. getD-take count (c .in-Continue-rows .rows) j Always h ∙ a .row j)) in
     ap (λ rows. accepted (record { facts = c .args .facts; rows = rows })) all
     ∙ judged-sheet (body i) (sized i) (a .fine) (subst (λ f. Faultless (name-fault count f) (count - 1)) same (c .in-rest .ensures tt)) (subst (λ f. Faultless (inner-fault count f) count) same (c .in-rest-first-wrong-inner .ensures tt))
