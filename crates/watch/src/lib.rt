@@ -1,0 +1,2 @@
+// A watch: it holds a sheet, accepts frames, and marks what the rule can still come to.
+pub mod record;

@@ -1,0 +1,18 @@
+// The beginning of a watch.
+ghost use mathlib.Core.Path.{_≡_};
+ghost use Rattle.watch.specs.Feeding.{progress-of, begun};
+ghost use Rattle.sheet.specs.Sheets.{sheet-of};
+use crate::record::Watch;
+use sheet::record::Sheet;
+
+impl Watch {
+    // A watch of this sheet that has accepted no frame.
+    pub fn start(sheet: &Sheet) -> Watch
+        ensures { λ r. ⌜ progress-of r ≡ begun (sheet-of (now (sheet .entry))) ⌝ }
+    {
+        Watch {
+            sheet: *sheet,
+            accepted: 0,
+        }
+    }
+}
