@@ -1,2 +1,3 @@
 // A watch: it holds a sheet, accepts frames, and marks what the rule can still come to.
+pub mod outcome;
 pub mod record;
