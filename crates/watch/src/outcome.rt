@@ -1,5 +1,6 @@
 // What a mark answers.
 use grade::Span;
+use grade::span::SpanClone;
 
 #[derive(Clone, Copy)]
 pub struct Mark<G> {
