@@ -23,9 +23,9 @@ use Rattle.rule.specs.Trees.{tree-at, rule-of}
 use Rattle.watch.specs.declared.outcome.Mark.{Mark}
 use Rattle.watch.specs.Feeding.{Progress, take-length}
 
--- The grades that a log holds: frame t from place t × facts on, one for each fact.
+-- The grades that a log holds: frame t from place t × facts on, one for each fact. (There is no fact from `facts` on.)
 abbrev pub log-trace : {V : Type 0} → Lattice V → ℕ → List V → Trace V
-log-trace l facts log t f = getD log (t * facts + f) (l .bottom)
+log-trace l facts log t f = cond (ltb f facts) (getD log (t * facts + f) (l .bottom)) (l .bottom)
 
 -- An accepted frame counts with its grades in the log, any other one as if it could be anything.
 abbrev pub seen : {V : Type 0} → Lattice V → Progress → List V → Trace (Span V)
