@@ -1,1 +1,4 @@
 pub mod Trees
+pub mod Standing
+pub mod Sides
+pub mod Rules

@@ -1,14 +1,14 @@
 -- What the formula of a row is made of, and its horizon, which is the row's length.
 use mathlib.Core.Path.{_≡_, refl, sym, ap, ap₂, _∙_, fun-ext}
 use mathlib.Core.Logic.{⊎-elim}
-use mathlib.Core.Bool.{Bool, true, false, _&&_}
+use mathlib.Core.Bool.{true, false}
 use mathlib.Core.List.{List, [], _∷_, _++_, map}
-use Prim.Native.Nat.{ℕ, zero, suc, _-_, _<_}
+use Prim.Native.Nat.{ℕ, zero, suc, _-_, _≤_, _<_}
 use native.Mathlib.Omega.{arith}
-use lib.Dec.{ltb, eqb}
+use lib.Dec.{eqb}
 use lib.ListN.{length, getD, List·getD-map}
 use Rattle.std.proofs.shelf.Lists.{length-push, getD-push, getD-append-left, map-push}
-use Rattle.std.proofs.shelf.Tests.{and-parts, or-cases, or-left, or-right, cases-eq, eq-eqb, eqb-true, ltb-true, false≢true}
+use Rattle.std.proofs.shelf.Tests.{or-left, or-right, cases-eq, cases-lt, eq-eqb, eqb-true, or-cases, both-ways, false≢true}
 use Rattle.formula.specs.Formula.{Formula, always, both, either, not, then, within, horizon}
 use Rattle.sheet.specs.Rows.{named-by, row-length}
 use Rattle.sheet.specs.Rules.{has, all-under, lengths-of, length-of, Written, row-at, Keeps}
@@ -16,6 +16,7 @@ use Rattle.sheet.specs.Sheets.{rule-length}
 use Rattle.sheet.specs.declared.row.Row.{Row}
 use Rattle.sheet.specs.declared.row.Row.the-variants.{Always, Hold, HoldOff, Both, Either, Not, Then, Within}
 use Rattle.sheet.proofs.Reading.{range-lower}
+use Rattle.sheet.proofs.Sweeps.{has-under}
 use Rattle.rule.specs.Trees.{tree-of, trees-of, tree-at, rule-of}
 
 -- a row is among those that are named: alone, as the left of two, or as the right
@@ -28,15 +29,12 @@ has-left x y = or-left (eqb x x) (has (y ∷ []) x) (eq-eqb x x refl)
 pub has-right : (x y : ℕ) → has (x ∷ y ∷ []) y ≡ true
 has-right x y = or-right (eqb x y) (has (y ∷ []) y) (has-one y)
 
+pub only : (x i : ℕ) → has (x ∷ []) i ≡ true → x ≡ i
+only x i e = eqb-true x i (⊎-elim (λ h. h) (λ h. absurd (false≢true h)) (or-cases (eqb x i) false e))
+
 -- what is in a list of lower rows is lower
 pub has-lower : (n : ℕ) (xs : List ℕ) (i : ℕ) → all-under n xs ≡ true → has xs i ≡ true → i < n
-has-lower n [] i h e = absurd (false≢true e)
-has-lower n (x ∷ xs) i h e =
-    let parts = and-parts (ltb x n) (all-under n xs) h in
-    ⊎-elim
-    (λ here. let is = eqb-true x i here in omega (arith, ltb-true x n (parts .0)))
-    (λ later. has-lower n xs i (parts .1) later)
-    (or-cases (eqb x i) (has xs i) e)
+has-lower n xs i h e = ⊎-elim (λ less. less) (λ more. absurd (both-ways (has xs i) (has-under n i xs h more) e)) (cases-lt i n)
 
 -- the formula of a row rests on those of the rows that it names, and on no others
 pub tree-by-named : (f g : ℕ → Formula) (r : Row) → ((i : ℕ) → has (named-by r) i ≡ true → f i ≡ g i) → tree-of f r ≡ tree-of g r
@@ -93,6 +91,16 @@ module _ (row : ℕ → Row) where
     tree-step k h =
         getD-push (trees-of row k) _ always k (length-trees k)
         ∙ tree-by-named _ _ (row k) (λ i named. trees-prefix k i (has-lower k (named-by (row k)) i (lower k h) named))
+
+    -- from row 0 upward: what is true of a row once it is true of the rows that it names is true of every row
+    pub upward : (P : ℕ → Type 0) → ((k : ℕ) → k < count → ((i : ℕ) → has (named-by (row k)) i ≡ true → P i) → P k) → (k : ℕ) → k < count → P k
+    upward P step k h = below (suc k) k (omega arith) (omega arith)
+      where
+        below : (n k : ℕ) → k < n → n ≤ count → P k
+        below zero k h few = absurd (omega arith)
+        below (suc n) k h few =
+            let here : k < count = omega arith in
+            step k here (λ i e. let less = has-lower k (named-by (row k)) i (lower k here) e in below n i (omega arith) (omega arith))
 
 -- the rows of a kept sheet name lower rows only
 pub kept-lower : (w : Written) → Keeps w → (k : ℕ) → k < length (w .rows) → all-under k (named-by (row-at (w .rows) k)) ≡ true
