@@ -17,11 +17,14 @@ pub record Progress : Type 0 where
   pub sheet : Written
   pub count : ℕ
 
+abbrev pub progress : Written → ℕ → Progress
+progress w n = record { sheet = w; count = n }
+
 abbrev pub progress-of : Watch → Progress
-progress-of w = record { sheet = sheet-of (w .sheet); count = w .accepted }
+progress-of w = progress (sheet-of (w .sheet)) (w .accepted)
 
 abbrev pub begun : Written → Progress
-begun w = record { sheet = w; count = 0 }
+begun w = progress w 0
 
 -- the frames of a take
 abbrev pub take-length : Written → ℕ
@@ -41,7 +44,7 @@ accepted-by (Ok n) = n
 accepted-by (Err r) = 0
 
 abbrev pub advanced : Progress → ℕ → Progress
-advanced p n = record { sheet = p .sheet; count = p .count + n }
+advanced p n = progress (p .sheet) (p .count + n)
 
 -- n frames of the strip stand in the log after those that were there, and the rest of it is as before
 abbrev pub logged : {V : Type 0} → Progress → ℕ → List V → List V → List V

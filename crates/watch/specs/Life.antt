@@ -19,7 +19,7 @@ use Rattle.sheet.specs.Rules.{Written}
 use Rattle.sheet.specs.Sides.{One-sided}
 use Rattle.rule.specs.Trees.{rule-of}
 use Rattle.watch.specs.declared.outcome.Mark.{Mark}
-use Rattle.watch.specs.Feeding.{Progress, begun, take-length, feed-answer, accepted-by, advanced, logged}
+use Rattle.watch.specs.Feeding.{Progress, progress, begun, take-length, feed-answer, accepted-by, advanced, logged}
 use Rattle.watch.specs.Marking.{log-trace, mark-span, mark-refusal, Marked}
 
 -- A call with the answer that it got.
@@ -27,16 +27,16 @@ pub data Event (V : Type 0) : Type 0 where
   fed : (strip : List V) → Result ℕ Refusal → Event V
   marked : (chart : List (Span V)) → Result (Mark V) Refusal → Event V
 
--- Any list of feeds and marks after a start, the newest first, each answered as its call promises, and what they leave
--- of the watch and of its log, which held anything at first and is changed by these feeds alone.
-pub data Life {V : Type 0} (l : Lattice V) (w : Written) : List (Event V) → Progress → List V → Type 0 where
-  begins : (log : List V) → Life l w [] (begun w) log
-  feeds : {es : List (Event V)} {p : Progress} {log : List V} → Life l w es p log
-      → (strip : List V) (r : Result ℕ Refusal) → r ≡ feed-answer p (length log) (length strip)
-      → Life l w (fed strip r ∷ es) (advanced p (accepted-by r)) (logged p (accepted-by r) strip log)
-  marks : {es : List (Event V)} {p : Progress} {log : List V} → Life l w es p log
-      → (before after : List (Span V)) (r : Result (Mark V) Refusal) → Marked l p log before after r
-      → Life l w (marked before r ∷ es) p log
+-- Any list of feeds and marks after a start, the newest first, each answered as its call promises; and what they leave:
+-- how many frames the watch counts, and its log, which held anything at first and is changed by these feeds alone.
+pub data Life {V : Type 0} (l : Lattice V) (w : Written) : List (Event V) → ℕ → List V → Type 0 where
+  begins : (log : List V) → Life l w [] (begun w .count) log
+  feeds : {es : List (Event V)} {n : ℕ} {log : List V} → Life l w es n log
+      → (strip : List V) (r : Result ℕ Refusal) → r ≡ feed-answer (progress w n) (length log) (length strip)
+      → Life l w (fed strip r ∷ es) (advanced (progress w n) (accepted-by r) .count) (logged (progress w n) (accepted-by r) strip log)
+  marks : {es : List (Event V)} {n : ℕ} {log : List V} → Life l w es n log
+      → (before after : List (Span V)) (r : Result (Mark V) Refusal) → Marked l (progress w n) log before after r
+      → Life l w (marked before r ∷ es) n log
 
 -- how many grades a take has
 abbrev pub take-size : Written → ℕ
@@ -52,7 +52,7 @@ accepted w (marked chart r ∷ es) = accepted w es
 
 -- how far a watch is that has accepted these frames
 abbrev pub having : {V : Type 0} → Written → List V → Progress
-having w frames = record { sheet = w; count = length frames / w .facts }
+having w frames = progress w (length frames / w .facts)
 
 -- A take begins with the accepted frames when its first frames are these, in this order.
 pub record Begins {V : Type 0} (w : Written) (frames whole : List V) : Type 0 where
@@ -92,10 +92,10 @@ None-refused (marked chart r ∷ es) = None-refused es
 -- them, and its mark with a chart that is long enough is this span.
 abbrev pub Second-marks : {W : Type 0} → Lattice W → Written → List (List W) → Span W → Type 0
 Second-marks {W} m w strips span =
-    (es : List (Event W)) (p : Progress) (log : List W) → Life m w es p log → Feeds w es strips → take-size w ≤ length log
+    (es : List (Event W)) (n : ℕ) (log : List W) → Life m w es n log → Feeds w es strips → take-size w ≤ length log
     → None-refused es
-    × ((before after : List (Span W)) (r : Result (Mark W) Refusal) → Marked m p log before after r → length (w .rows) * take-length w ≤ length before
-        → (n : Mark W) × (r ≡ Ok n) × (n .span ≡ span))
+    × ((before after : List (Span W)) (r : Result (Mark W) Refusal) → Marked m (progress w n) log before after r → length (w .rows) * take-length w ≤ length before
+    → (answer : Mark W) × (r ≡ Ok answer) × (answer .span ≡ span))
 
 -- What a granted mark promises, after calls that accepted these frames.
 pub record Kept {V W : Type 0} (l : Lattice V) (m : Lattice W) (h : V → W) (w : Written) (es : List (Event V)) (answer : Mark V) : Type 0 where
