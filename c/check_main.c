@@ -50,7 +50,7 @@ static int digit(char c)
 static int answer(const char *text, size_t digits, uint32_t *result)
 {
     size_t length = digits / 2;
-    /* The block ends where the sheet ends, so that a sanitizer sees a read past it. */
+    /* The block ends where the sheet ends, so that nothing that lies behind it can be read by accident. */
     uint8_t *block = malloc(length + 1);
     if (block == NULL || digits % 2 != 0) {
         free(block);
