@@ -4,3 +4,4 @@ pub mod Takes
 pub mod Laid
 pub mod Second
 pub mod Living
+pub mod Verdict

@@ -1,3 +1,4 @@
 pub mod Feeding
 pub mod Marking
 pub mod Life
+pub mod Verdict
