@@ -5,3 +5,6 @@ pub mod Laid
 pub mod Second
 pub mod Living
 pub mod Verdict
+pub mod Kept
+pub mod Answered
+pub mod Played

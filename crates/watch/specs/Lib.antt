@@ -2,3 +2,4 @@ pub mod Feeding
 pub mod Marking
 pub mod Life
 pub mod Verdict
+pub mod Played

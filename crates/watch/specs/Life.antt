@@ -118,3 +118,7 @@ Whole-life l m h w log (fed strip r ∷ es) = (r ≡ feed-answer (having w (acce
 Whole-life l m h w log (marked chart (Ok answer) ∷ es) =
     (mark-refusal (having w (accepted w es)) log (length chart) ≡ None) × Kept l m h w es answer × Whole-life l m h w log es
 Whole-life l m h w log (marked chart (Err r) ∷ es) = (mark-refusal (having w (accepted w es)) log (length chart) ≡ Some r) × Whole-life l m h w log es
+
+-- Whatever life led to this watch and this log, with this call it is one of which all that is promised.
+abbrev pub Lived : {V W : Type 0} → Lattice V → Lattice W → (V → W) → Progress → List V → Event V → Type 0
+Lived {V} l m h p log call = (es : List (Event V)) → Life l (p .sheet) es (p .count) log → Whole-life l m h (p .sheet) (length log) (call ∷ es)
