@@ -8,3 +8,4 @@ pub mod Verdict
 pub mod Kept
 pub mod Answered
 pub mod Played
+pub mod YesNo

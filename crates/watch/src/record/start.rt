@@ -15,4 +15,11 @@ impl Watch {
             accepted: 0,
         }
     }
+
+    // How many frames it has accepted.
+    pub fn accepted(&self) -> u16
+        ensures { λ r. ⌜ r ≡ progress-of (now (self .entry)) .count ⌝ }
+    {
+        self.accepted
+    }
 }
