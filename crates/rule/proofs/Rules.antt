@@ -4,11 +4,11 @@ use mathlib.Core.Bool.{Bool, true, false, cond}
 use mathlib.Core.Logic.{_↔_}
 use Prim.Native.Nat.{ℕ, _-_, _≤_, _<_}
 use lib.Dec.{ltb}
+use lib.ListN.{length}
 use Rattle.grade.specs.Lattice.{Lattice, Lawful}
 use Rattle.grade.specs.Spans.{spans, exact, unknown}
 use Rattle.grade.specs.Translations.{Carries, by-ends}
 use Rattle.grade.specs.YesNo.{yes-no}
-use Rattle.formula.specs.Formula.{horizon}
 use Rattle.formula.specs.Grades.{Trace, grade}
 use Rattle.formula.specs.Known.{known}
 use Rattle.formula.specs.Sides.{worst, best}
@@ -17,12 +17,18 @@ use Rattle.formula.proofs.Known.{narrowing}
 use Rattle.formula.proofs.Reached.{reached}
 use Rattle.formula.proofs.Carried.{translations-carry}
 use Rattle.sheet.specs.Rules.{row-at}
-use Rattle.rule.specs.Trees.{tree-at, rule-of}
-use Rattle.rule.specs.Meaning.{row-grade, rule-row, Row-met, length-at, translated}
-use Rattle.rule.specs.Laws.{Published-rule, Rule-enclosed, Rule-narrows, Ends-can-come, Rule-carried}
-use Rattle.rule.proofs.Trees.{horizon-length, rule-horizon}
+use Rattle.rule.specs.Trees.{rule-of}
+use Rattle.rule.specs.Meaning.{formula-at, Row-met, row-grade, rule-row, translated}
+use Rattle.rule.specs.Laws.{Rows-are-formulas, Published-rule, Rule-enclosed, Rule-narrows, Ends-can-come, Rule-carried}
+use Rattle.rule.proofs.Trees.{tree-step, horizon-length, kept-lower, rule-horizon}
 use Rattle.rule.proofs.Standing.{row-proper, inner-proper, rule-proper}
 use Rattle.rule.proofs.Sides.{one-sided}
+
+pub rows-are-formulas : Rows-are-formulas
+rows-are-formulas = record {
+  made = λ w keeps k h. tree-step (row-at (w .rows)) (length (w .rows)) (kept-lower w keeps) k h;
+  long = λ w k. horizon-length (row-at (w .rows)) k;
+}
 
 -- a formula's horizon is the row's length, so the laws speak of lengths
 pub published-rule : Published-rule
@@ -31,9 +37,9 @@ published-rule = record {
       subst (λ n. Row-met trace w (rule-row w) 0 n ↔ (row-grade yes-no trace w (rule-row w) 0 ≡ true)) (rule-horizon w) (published .whole trace (rule-of w) (rule-proper w keeps));
   inner = λ w keeps k i trace s e ordered.
       subst (λ n. Row-met trace w k s e ↔ ((n ≤ e - s) × (row-grade yes-no trace w k s ≡ true))) (horizon-length (row-at (w .rows)) k)
-      (published .inner trace (tree-at (row-at (w .rows)) k) s e (inner-proper w keeps k i) ordered);
+      (published .inner trace (formula-at w k) s e (inner-proper w keeps k i) ordered);
   other = λ w keeps k h trace s e ordered fits.
-      published .outer trace (tree-at (row-at (w .rows)) k) s e (row-proper w keeps k h) ordered (subst (λ n. n ≤ e - s) (sym (horizon-length (row-at (w .rows)) k)) fits);
+      published .outer trace (formula-at w k) s e (row-proper w keeps k h) ordered (subst (λ n. n ≤ e - s) (sym (horizon-length (row-at (w .rows)) k)) fits);
 }
 
 module _ {V : Type 0} {l : Lattice V} (law : Lawful l) where

@@ -9,7 +9,7 @@ use lib.Dec.{eqb}
 use lib.ListN.{length, getD, List·getD-map}
 use Rattle.std.proofs.shelf.Lists.{length-push, getD-push, getD-append-left, map-push}
 use Rattle.std.proofs.shelf.Tests.{or-left, or-right, cases-eq, cases-lt, eq-eqb, eqb-true, or-cases, both-ways, false≢true}
-use Rattle.formula.specs.Formula.{Formula, always, both, either, not, then, within, horizon}
+use Rattle.formula.specs.Formula.{Formula, always, horizon}
 use Rattle.sheet.specs.Rows.{named-by, row-length}
 use Rattle.sheet.specs.Rules.{has, all-under, lengths-of, length-of, Written, row-at, Keeps}
 use Rattle.sheet.specs.Sheets.{rule-length}
@@ -41,11 +41,11 @@ pub tree-by-named : (f g : ℕ → Formula) (r : Row) → ((i : ℕ) → has (na
 tree-by-named f g Always h = refl
 tree-by-named f g (Hold duration fact) h = refl
 tree-by-named f g (HoldOff duration fact) h = refl
-tree-by-named f g (Both left right) h = ap₂ both (h left (has-left left right)) (h right (has-right left right))
-tree-by-named f g (Either left right) h = ap₂ either (h left (has-left left right)) (h right (has-right left right))
-tree-by-named f g (Not row) h = ap not (h row (has-one row))
-tree-by-named f g (Then left right) h = ap₂ then (h left (has-left left right)) (h right (has-right left right))
-tree-by-named f g (Within from to row) h = ap (within from to) (h row (has-one row))
+tree-by-named f g (Both left right) h = cc (h left (has-left left right), h right (has-right left right))
+tree-by-named f g (Either left right) h = cc (h left (has-left left right), h right (has-right left right))
+tree-by-named f g (Not row) h = cc (h row (has-one row))
+tree-by-named f g (Then left right) h = cc (h left (has-left left right), h right (has-right left right))
+tree-by-named f g (Within from to row) h = cc (h row (has-one row))
 
 -- the horizon of one row's formula is reckoned as the row's length is
 pub horizon-by-named : (f : ℕ → Formula) (r : Row) → horizon (tree-of f r) ≡ row-length (λ i. horizon (f i)) r
@@ -55,7 +55,7 @@ horizon-by-named f (HoldOff duration fact) = refl
 horizon-by-named f (Both left right) = refl
 horizon-by-named f (Either left right) = refl
 horizon-by-named f (Not row) = refl
-horizon-by-named f (Then left right) = refl
+horizon-by-named f (Then left right) = omega arith
 horizon-by-named f (Within from to row) = refl
 
 module _ (row : ℕ → Row) where

@@ -8,12 +8,19 @@ use Rattle.grade.specs.Lattice.{Lattice}
 use Rattle.grade.specs.Spans.{exact, encloses, lies-within}
 use Rattle.grade.specs.Translations.{by-ends}
 use Rattle.grade.specs.YesNo.{yes-no}
+use Rattle.formula.specs.Formula.{horizon}
 use Rattle.formula.specs.Grades.{Trace}
 use Rattle.formula.specs.Known.{Agree}
-use Rattle.sheet.specs.Rules.{Written, Keeps}
+use Rattle.sheet.specs.Rules.{Written, row-at, Keeps}
 use Rattle.sheet.specs.Sheets.{rule-length}
 use Rattle.sheet.specs.Sides.{One-sided}
-use Rattle.rule.specs.Meaning.{row-grade, rule-row, rule-grade, rule-span, Row-met, length-at, Inner, translated}
+use Rattle.rule.specs.Trees.{tree-of}
+use Rattle.rule.specs.Meaning.{formula-at, length-at, Inner, Row-met, row-grade, rule-row, rule-grade, rule-span, translated}
+
+-- Each row of a kept sheet stands for a formula over those of the rows that it names, and looks ahead as far as it is long.
+pub record Rows-are-formulas : Type 0 where
+  pub made : (w : Written) → Keeps w → (k : ℕ) → k < length (w .rows) → formula-at w k ≡ tree-of (formula-at w) (row-at (w .rows) k)
+  pub long : (w : Written) (k : ℕ) → horizon (formula-at w k) ≡ length-at w k
 
 -- Over no and yes, the grades of a sheet are the published meaning.
 pub record Published-rule : Type 0 where

@@ -1,8 +1,15 @@
 // What the rule of a sheet means: its rows as a formula, and what is true of its grade.
 // The formulas are definitions that nothing runs; each function below promises one law of the rules of sheets.
-ghost use Rattle.rule.specs.Laws.{Published-rule, Rule-enclosed, Rule-narrows, Ends-can-come, Rule-carried};
+ghost use Rattle.rule.specs.Laws.{Rows-are-formulas, Published-rule, Rule-enclosed, Rule-narrows, Ends-can-come, Rule-carried};
 use grade::Grade;
 use grade::Translation;
+
+// A row is made of the rows that it names, and its formula looks ahead as far as the row is long.
+pub fn rows_are_formulas() -> u8
+    ensures { λ _. ⌜ Rows-are-formulas ⌝ }
+{
+    0
+}
 
 // Over no and yes, the grade of a rule, and of each row, is the published meaning.
 pub fn published_meaning() -> u8
