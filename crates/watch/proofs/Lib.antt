@@ -1,1 +1,4 @@
 pub mod Feeding
+pub mod Folds
+pub mod Sliding
+pub mod Sweeping

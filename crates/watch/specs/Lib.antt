@@ -1,2 +1,3 @@
 pub mod Feeding
 pub mod Marking
+pub mod Windows

@@ -1,3 +1,4 @@
 // A watch: it holds a sheet, accepts frames, and marks what the rule can still come to.
 pub mod outcome;
 pub mod record;
+mod window;
