@@ -1,18 +1,13 @@
--- A meet or a join over a window is one over two windows that cover it, also where they overlap.
+-- A meet or a join over a window is one over two windows, the one after the other.
 use mathlib.Core.Path.{_≡_, refl, sym, ap, ap₂, _∙_}
 use mathlib.Core.Bool.{true}
-use Prim.Native.Nat.{ℕ, zero, suc, _+_, _-_, _≤_, _<_}
+use Prim.Native.Nat.{ℕ, zero, suc, _+_, _<_}
 use native.Mathlib.Nat.{zero-add, add-zero}
 use native.Mathlib.Omega.{arith}
 use Rattle.grade.specs.Lattice.{Lattice, Lawful}
 use Rattle.watch.specs.declared.window.Fold.{Fold}
 use Rattle.watch.specs.declared.window.Fold.the-variants.{Meet, Join}
-use Rattle.watch.specs.Windows.{combined, over}
-
--- the fold of none
-abbrev pub none : {V : Type 0} → Lattice V → Fold → V
-none l Meet = l .top
-none l Join = l .bottom
+use Rattle.watch.specs.Windows.{combined, none, over}
 
 module _ {V : Type 0} {l : Lattice V} (law : Lawful l) where
   under : (x y z : V) → l .le x y ≡ true → l .le y z ≡ true → l .le x z ≡ true
@@ -44,11 +39,7 @@ module _ {V : Type 0} {l : Lattice V} (law : Lawful l) where
   assoc Meet x y z = meet-assoc x y z
   assoc Join x y z = join-assoc x y z
 
-  pub idem : (f : Fold) (x : V) → combined l f x x ≡ x
-  idem Meet x = law .antisymmetric _ _ (law .meet-left x x) (law .meet-above x x x (law .reflexive x) (law .reflexive x))
-  idem Join x = law .antisymmetric _ _ (law .join-below x x x (law .reflexive x) (law .reflexive x)) (law .join-left x x)
-
-  none-left : (f : Fold) (x : V) → combined l f (none l f) x ≡ x
+  pub none-left : (f : Fold) (x : V) → combined l f (none l f) x ≡ x
   none-left Meet x = law .antisymmetric _ _ (law .meet-right _ x) (law .meet-above _ x x (law .greatest x) (law .reflexive x))
   none-left Join x = law .antisymmetric _ _ (law .join-below _ x x (law .least x) (law .reflexive x)) (law .join-right _ x)
 
@@ -90,20 +81,3 @@ module _ {V : Type 0} {l : Lattice V} (law : Lawful l) (f : Fold) (at : ℕ → 
       ∙ ap (combined l f (at s)) (over-split m (suc s) n ∙ ap (λ i. combined l f (over l f at (suc s) m) (over l f at i n)) next)
       ∙ sym (assoc law f _ _ _)
       ∙ ap (λ x. combined l f x (over l f at (s + suc m) n)) (sym (over-more l f at s m))
-
-  -- two windows of k that reach over w, with k - (w - k) values in both
-  pub over-lap : (s k w : ℕ) → k ≤ w → w ≤ k + k → over l f at s w ≡ combined l f (over l f at s k) (over l f at (s + (w - k)) k)
-  over-lap s k w lo hi =
-      let j = w - k in
-      let b = k - j in
-      let A = over l f at s j in
-      let B = over l f at (s + j) b in
-      let C = over l f at (s + j + b) j in
-      let left : over l f at s k ≡ combined l f A B = ap (over l f at s) (omega arith) ∙ over-split j s b in
-      let right : over l f at (s + j) k ≡ combined l f B C = ap (over l f at (s + j)) (omega arith) ∙ over-split b (s + j) j in
-      let twice : combined l f B (combined l f B C) ≡ combined l f B C = sym (assoc law f B B C) ∙ ap (λ x. combined l f x C) (idem law f B) in
-      ap (over l f at s) (omega arith)
-      ∙ over-split j s k
-      ∙ ap (combined l f A) (right ∙ sym twice)
-      ∙ sym (assoc law f A B (combined l f B C))
-      ∙ sym (ap₂ (combined l f) left right)

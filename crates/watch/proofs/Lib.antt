@@ -1,4 +1,7 @@
+pub mod Blocks
+pub mod Charting
 pub mod Feeding
 pub mod Folds
-pub mod Sliding
+pub mod Places
+pub mod Reading
 pub mod Sweeping

@@ -5,6 +5,7 @@ use sheet::record::Sheet;
 
 mod feed;
 mod start;
+mod slide;
 
 #[derive(Clone, Copy)]
 pub struct Watch {

@@ -1,8 +1,10 @@
-// Values of any grade side by side, and the folds over a window that slides along them.
-ghost use Prim.Native.Nat.{ℕ, _+_, _≤_};
+// The cells of a chart of any grade, written in place: from others below them, or by a fold.
+ghost use Prim.Native.Nat.{_+_, _<_, _≤_};
 ghost use mathlib.Core.Path.{_≡_};
-ghost use lib.ListN.{length, getD};
-ghost use Rattle.watch.specs.Windows.{combined, over, Swept};
+ghost use mathlib.Core.Bool.{cond};
+ghost use lib.Dec.{eqb};
+ghost use lib.ListN.{length, getD, set};
+ghost use Rattle.watch.specs.Windows.{combined, none, Swept};
 use grade::Grade;
 
 // The two ways to make one grade of two.
@@ -13,7 +15,7 @@ pub(crate) enum Fold {
 }
 
 impl Fold {
-    fn combine<V: Grade>(self, one: V, other: V) -> V
+    pub(crate) fn combine<V: Grade>(self, one: V, other: V) -> V
         ensures { λ r. ⌜ r ≡ combined (V·Grade .ops) self one other ⌝ }
     {
         match self {
@@ -21,66 +23,70 @@ impl Fold {
             Fold::Join => one.join(other),
         }
     }
-}
 
-pub(crate) fn fill<V: Grade>(values: &mut [V], value: V)
-    ensures { λ _. ⌜ Swept (length (now (values .entry))) (λ _ _. value) (now (values .entry)) (now (values .exit)) ⌝ }
-{
-    for s in 0..values.len() {
-        values[s] = value;
+    // The fold of no value.
+    pub(crate) fn none<V: Grade>(self) -> V
+        ensures { λ r. ⌜ r ≡ none (V·Grade .ops) self ⌝ }
+    {
+        match self {
+            Fold::Meet => V::top(),
+            Fold::Join => V::bottom(),
+        }
+    }
+
+    // What is folded so far, or nothing where a block begins.
+    pub(crate) fn since<V: Grade>(self, place: usize, sofar: V) -> V
+        ensures { λ r. ⌜ r ≡ cond (eqb place 0) (none (V·Grade .ops) self) sofar ⌝ }
+    {
+        if place == 0 { self.none() } else { sofar }
     }
 }
 
-pub(crate) fn flip_all<V: Grade>(values: &mut [V])
-    ensures { λ _. ⌜ Swept (length (now (values .entry))) (λ s d. V·Grade .ops .flip (getD (now (values .entry)) s d)) (now (values .entry)) (now (values .exit)) ⌝ }
+pub(crate) fn cell<V: Grade>(chart: &[V], place: usize) -> V
+    requires { ⌜ place < length (now chart) ⌝ }
+    ensures { λ r. ⌜ ((d : V) → r ≡ getD (now (chart .entry)) place d) ⌝ }
 {
-    for s in 0..values.len() {
-        let here = values[s];
-        values[s] = here.flip();
+    chart[place]
+}
+
+pub(crate) fn put<V: Grade>(value: V, chart: &mut [V], place: usize)
+    requires { ⌜ place < length (now chart) ⌝ }
+    ensures { λ _. ⌜ now (chart .exit) ≡ set (now (chart .entry)) place value ⌝ }
+{
+    chart[place] = value;
+}
+
+pub(crate) fn fill<V: Grade>(value: V, chart: &mut [V], first: usize, count: usize)
+    requires { ⌜ first + count ≤ length (now chart) ⌝ }
+    ensures { λ _. ⌜ Swept first 0 count (λ _ _. value) (now (chart .entry)) (now (chart .exit)) ⌝ }
+{
+    for s in 0..count {
+        chart[first + s] = value;
     }
 }
 
-// The first `count` values, from two places of a chart on.
-pub(crate) fn pair<V: Grade>(fold: Fold, chart: &[V], left: usize, right: usize, count: usize, values: &mut [V])
-    requires left { ⌜ left + count ≤ length (now chart) ⌝ }
-    requires right { ⌜ right + count ≤ length (now chart) ⌝ }
-    requires room { ⌜ count ≤ length (now values) ⌝ }
-    ensures { λ _. ⌜ Swept count (λ s d. combined (V·Grade .ops) fold (getD (now (chart .entry)) (left + s) d) (getD (now (chart .entry)) (right + s) d)) (now (values .entry)) (now (values .exit)) ⌝ }
+// Each the flip of one from `from` on.
+pub(crate) fn flips<V: Grade>(from: usize, chart: &mut [V], first: usize, count: usize)
+    requires below { ⌜ from + count ≤ first ⌝ }
+    requires room { ⌜ first + count ≤ length (now chart) ⌝ }
+    ensures { λ _. ⌜ Swept first 0 count (λ s d. V·Grade .ops .flip (getD (now (chart .entry)) (from + s) d)) (now (chart .entry)) (now (chart .exit)) ⌝ }
+{
+    for s in 0..count {
+        let there = chart[from + s];
+        chart[first + s] = there.flip();
+    }
+}
+
+// Each from one that stands from `left` on and one from `right` on.
+pub(crate) fn pair<V: Grade>(fold: Fold, left: usize, right: usize, chart: &mut [V], first: usize, count: usize)
+    requires left { ⌜ left + count ≤ first ⌝ }
+    requires right { ⌜ right + count ≤ first ⌝ }
+    requires room { ⌜ first + count ≤ length (now chart) ⌝ }
+    ensures { λ _. ⌜ Swept first 0 count (λ s d. combined (V·Grade .ops) fold (getD (now (chart .entry)) (left + s) d) (getD (now (chart .entry)) (right + s) d)) (now (chart .entry)) (now (chart .exit)) ⌝ }
 {
     for s in 0..count {
         let one = chart[left + s];
         let other = chart[right + s];
-        values[s] = fold.combine(one, other);
-    }
-}
-
-// Each of the first `count` values takes in the one that stands `gap` places on, which is still as it was.
-fn pass<V: Grade>(fold: Fold, values: &mut [V], gap: usize, count: usize)
-    requires apart { ⌜ 1 ≤ gap ⌝ }
-    requires room { ⌜ gap + count ≤ length (now values) ⌝ }
-    ensures { λ _. ⌜ Swept count (λ s d. combined (V·Grade .ops) fold (getD (now (values .entry)) s d) (getD (now (values .entry)) (s + gap) d)) (now (values .entry)) (now (values .exit)) ⌝ }
-{
-    for s in 0..count {
-        let here = values[s];
-        let there = values[s + gap];
-        values[s] = fold.combine(here, there);
-    }
-}
-
-// Each value becomes the fold of the `width` values from it on. The windows double until two of them, which may
-// overlap, cover the width.
-pub(crate) fn slide<V: Grade>(fold: Fold, values: &mut [V], width: usize)
-    requires some { ⌜ 1 ≤ width ⌝ }
-    requires room { ⌜ width ≤ length (now values) ⌝ }
-    ensures { λ _. ⌜ ((s : ℕ) (d : V) → s + width ≤ length (now (values .entry)) → getD (now (values .exit)) s d ≡ over (V·Grade .ops) fold (λ t. getD (now (values .entry)) t d) s width) ⌝ }
-{
-    let count = values.len();
-    let mut done = 1;
-    while done <= width - done {
-        pass(fold, values, done, count - done - done + 1);
-        done += done;
-    }
-    if done < width {
-        pass(fold, values, width - done, count - width + 1);
+        chart[first + s] = fold.combine(one, other);
     }
 }
