@@ -22,7 +22,8 @@ use Rattle.rule.specs.Trees.{tree-at, tree-of}
 use Rattle.rule.proofs.Trees.{has-one, has-left, has-right, has-lower, horizon-by-named, horizon-length, tree-step, kept-lower}
 use Rattle.watch.specs.Feeding.{Progress, take-length}
 use Rattle.watch.specs.Marking.{seen, row-span}
-use Rattle.watch.specs.Cells.{long, Ready}
+use Rattle.watch.specs.Cells.{long, Ready, Row-charted}
+use Rattle.watch.specs.Windows.{Swept}
 use Rattle.watch.proofs.Places.{inside}
 
 module _ {V : Type 0} {l : Lattice V} {p : Progress} {log : List V} {k : ℕ} {chart : List (Span V)} (ready : Ready l p log k chart) where
@@ -55,15 +56,26 @@ module _ {V : Type 0} {l : Lattice V} {p : Progress} {log : List V} {k : ℕ} {c
   window-there from to row e =
       leb-true from to (and-parts (all-under k (row ∷ [])) (leb from to) (and-parts true _ (right-row (Within from to row) e) .1) .1)
 
-  -- the cells of a lower row stand within the chart
-  pub room-of : (i s : ℕ) → i < k → s ≤ take-length (p .sheet) → i * take-length (p .sheet) + s ≤ length chart
-  room-of i s less h = omega (arith, inside (take-length (p .sheet)) i s (length (p .sheet .rows)) (omega (arith, ready .among)) h, ready .chart-room)
+  -- so many values from start s of a lower row on stand below row k, in a chart of n frames
+  pub below-row : (n place first i s count : ℕ) → n ≡ take-length (p .sheet) → place ≡ i * n + s → first ≡ k * n + 0 → i < k → s + count ≤ take-length (p .sheet) → place + count ≤ first
+  below-row n place first i s count n-is place-is first-is less h = omega (arith, place-is, first-is, inside n i (s + count) k less (omega (arith, h, n-is)))
 
-  -- so many values from a place on, which is the cell of a lower row at start s, in a chart of n frames
-  pub room-from : (n place i s count : ℕ) → n ≡ take-length (p .sheet) → place ≡ i * n + s → i < k → s + count ≤ take-length (p .sheet) → place + count ≤ length chart
-  room-from n place i s count n-is place-is less h =
-      let here : place ≡ i * take-length (p .sheet) + s = place-is ∙ ap (λ m. i * m + s) n-is in
-      omega (arith, here, room-of i (s + count) less h)
+  -- and those of row k within the chart
+  pub room-row : (n first count : ℕ) → n ≡ take-length (p .sheet) → first ≡ k * n + 0 → count ≤ take-length (p .sheet) → first + count ≤ length chart
+  room-row n first count n-is first-is h =
+      let here : first ≡ k * take-length (p .sheet) + 0 = first-is ∙ ap (λ m. k * m + 0) n-is in
+      omega (arith, here, inside (take-length (p .sheet)) k count (length (p .sheet .rows)) (ready .among) h, ready .chart-room)
+
+  -- row k is charted once its cells hold its grades
+  pub charted-from : (n first count len : ℕ) (one : ℕ → Span V → Span V) (after : List (Span V)) → n ≡ take-length (p .sheet) → first ≡ k * n + 0 → len ≡ long p k → count ≡ n - len
+      → Swept first 0 count one chart after → ((s : ℕ) (d : Span V) → s + long p k ≤ rule-length (p .sheet) → one s d ≡ row-span l p log k s) → Row-charted l p log k chart after
+  charted-from n first count len one after n-is first-is len-is count-is so is =
+      let here : first ≡ k * take-length (p .sheet) = first-is ∙ ap (λ m. k * m + 0) n-is ∙ add-zero (k * take-length (p .sheet)) in
+      record {
+        size = so .size;
+        cells = λ s d h. ap (λ i. getD after (i + s) d) (sym here) ∙ so .cells s d (omega arith) (omega (arith, h, n-is, len-is, count-is)) ∙ is s d h;
+        others = λ i d h. so .rest i d (λ s lo hi e. h s (omega (arith, hi, n-is, len-is, count-is)) (omega (arith, e, here)));
+      }
 
   -- what stands t places on is the grade of the row t frames later
   pub cell-from : (n place i s t u : ℕ) (d : Span V) → n ≡ take-length (p .sheet) → place ≡ i * n + s → i < k → s + t ≡ u → u + long p i ≤ rule-length (p .sheet) → getD chart (place + t) d ≡ row-span l p log i u

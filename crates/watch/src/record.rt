@@ -4,8 +4,10 @@ ghost use Rattle.sheet.specs.Sheets.{sheet-of, rule-length};
 use sheet::record::Sheet;
 
 mod feed;
-mod start;
+mod mark;
+mod rows;
 mod slide;
+mod start;
 
 #[derive(Clone, Copy)]
 pub struct Watch {
