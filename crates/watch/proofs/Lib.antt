@@ -1,3 +1,5 @@
+pub mod Blocks
+pub mod Charting
 pub mod Feeding
 pub mod Frames
 pub mod Takes
@@ -9,3 +11,8 @@ pub mod Kept
 pub mod Answered
 pub mod Played
 pub mod YesNo
+pub mod Folds
+pub mod Marks
+pub mod Places
+pub mod Reading
+pub mod Sweeping

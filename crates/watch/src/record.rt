@@ -4,6 +4,9 @@ ghost use Rattle.sheet.specs.Sheets.{sheet-of, rule-length};
 use sheet::record::Sheet;
 
 mod feed;
+mod mark;
+mod rows;
+mod slide;
 mod start;
 
 #[derive(Clone, Copy)]

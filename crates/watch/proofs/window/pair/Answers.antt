@@ -1,0 +1,25 @@
+use mathlib.Core.Path.{ap₂, subst, _∙_}
+use Prim.Native.Nat.{_+_}
+use native.Mathlib.Omega.{arith}
+use lib.ListN.{getD}
+use Rattle.std.proofs.shelf.Lists.{getD-read}
+use Rattle.watch.specs.Windows.{combined, Swept}
+use Rattle.watch.proofs.Sweeping.{swept-none, swept-up, swept-below}
+use Rattle.watch.proofs.window.pair.Needs as need
+
+pub loop-s-holds : need.loop-s-holds
+loop-s-holds g c = swept-none _ _ _ _
+
+pub loop-s-again : need.loop-s-again
+loop-s-again g c =
+    let so = c .loop-s .inv in
+    swept-up _ _ _ _ _ _ _ (omega arith) (omega (arith, so .size))
+    (λ d.
+        c .combine .ensures
+        ∙ ap₂ (combined (g .V·Grade .ops) (c .args .fold))
+          (getD-read (c .loop-s .chart) _ _ (omega (arith, so .size)) (c .index-chart-left .is) d ∙ swept-below so _ d (omega arith))
+          (getD-read (c .loop-s .chart) _ _ (omega (arith, so .size)) (c .index-chart-right .is) d ∙ swept-below so _ d (omega arith)))
+    so
+
+pub returns : need.returns
+returns g c = subst (λ n. Swept (c .args .first) 0 n (λ s d. combined (g .V·Grade .ops) (c .args .fold) (getD (c .args .chart .now) (c .args .left + s) d) (getD (c .args .chart .now) (c .args .right + s) d)) (c .args .chart .now) (c .loop-s .chart)) (omega arith) (c .loop-s .inv)

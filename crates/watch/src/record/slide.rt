@@ -1,0 +1,111 @@
+// The folds of a window that slides along the starts of a row.
+//
+// The values stand in blocks of the window's width, so that a window is the rest of one block and the beginning of the next.
+// The rests are folded from the last start down, straight into the cells, and the beginnings from the first start up: some three
+// operations for a start, however wide the window is, and no room beside the cells.
+ghost use mathlib.Core.Path.{_≡_};
+ghost use Prim.Native.Nat.{_+_, _-_, _*_, _%_, _<_, _≤_};
+ghost use lib.ListN.{length, getD};
+ghost use Rattle.grade.specs.Spans.{spans};
+ghost use Rattle.watch.specs.Feeding.{progress-of, take-length};
+ghost use Rattle.watch.specs.Marking.{seen};
+ghost use Rattle.watch.specs.Sources.{single-of, Readable};
+ghost use Rattle.watch.specs.Windows.{combined, over, reach, Swept};
+use crate::record::Watch;
+use crate::sweep::Source;
+use crate::sweep::Sweep;
+use crate::window::cell;
+use crate::window::fill;
+use crate::window::put;
+use grade::Grade;
+use grade::Span;
+use grade::SpanGrade;
+
+impl Watch {
+    // What is known of a fact in frame t.
+    fn fact_span<G: Grade>(&self, log: &[G], t: usize, fact: usize) -> Span<G>
+        requires fact { ⌜ fact < progress-of (now self) .sheet .facts ⌝ }
+        requires room { ⌜ progress-of (now self) .sheet .facts * take-length (progress-of (now self) .sheet) ≤ length (now log) ⌝ }
+        ensures { λ r. ⌜ r ≡ seen (G·Grade .ops) (progress-of (now (self .entry))) (now (log .entry)) t fact ⌝ }
+    {
+        if t < self.accepted as usize {
+            Span::exact(log[t * self.sheet.facts() as usize + fact])
+        } else {
+            Span::unknown()
+        }
+    }
+
+    // The value of a source at t.
+    fn single<G: Grade>(&self, log: &[G], chart: &[Span<G>], source: Source, t: usize) -> Span<G>
+        requires { ⌜ Readable (progress-of (now self)) (now log) (length (now chart)) source (t + 1) ⌝ }
+        ensures { λ r. ⌜ r ≡ single-of (G·Grade .ops) (progress-of (now (self .entry))) (now (log .entry)) (now (chart .entry)) source t ⌝ }
+    {
+        match source {
+            Source::On { fact } => self.fact_span(log, t, fact as usize),
+            Source::Off { fact } => self.fact_span(log, t, fact as usize).flip(),
+            Source::Cells { from } => chart[from + t],
+        }
+    }
+
+    // The fold of the values past the last start, up to the end of its block.
+    fn last_tail<G: Grade>(&self, log: &[G], chart: &[Span<G>], sweep: Sweep) -> Span<G>
+        requires some { ⌜ 1 ≤ sweep .width ⌝ }
+        requires source { ⌜ Readable (progress-of (now self)) (now log) (length (now chart)) (sweep .source) (sweep .count + sweep .width - 1) ⌝ }
+        ensures { λ r. ⌜ r ≡ over (spans (G·Grade .ops)) (sweep .fold) (single-of (G·Grade .ops) (progress-of (now (self .entry))) (now (log .entry)) (now (chart .entry)) (sweep .source)) (sweep .count) (reach (sweep .count + sweep .width - 1) (sweep .width) (sweep .count)) ⌝ }
+    {
+        let count = sweep.count as usize;
+        let width = sweep.width as usize;
+        let mut tail = sweep.fold.none();
+        for t in (count..count + width - 1).rev() {
+            let value = self.single(log, chart, sweep.source, t);
+            tail = sweep.fold.combine(value, sweep.fold.since((t + 1) % width, tail));
+        }
+        tail
+    }
+
+    // The rests of the blocks.
+    fn tails<G: Grade>(&self, log: &[G], sweep: Sweep, chart: &mut [Span<G>])
+        requires some { ⌜ 1 ≤ sweep .width ⌝ }
+        requires source { ⌜ Readable (progress-of (now self)) (now log) (sweep .first) (sweep .source) (sweep .count + sweep .width - 1) ⌝ }
+        requires room { ⌜ sweep .first + sweep .count ≤ length (now chart) ⌝ }
+        ensures { λ _. ⌜ Swept (sweep .first) 0 (sweep .count) (λ s _. over (spans (G·Grade .ops)) (sweep .fold) (single-of (G·Grade .ops) (progress-of (now (self .entry))) (now (log .entry)) (now (chart .entry)) (sweep .source)) s (sweep .width - s % sweep .width)) (now (chart .entry)) (now (chart .exit)) ⌝ }
+    {
+        let width = sweep.width as usize;
+        let mut tail = self.last_tail(log, chart, sweep);
+        for s in (0..sweep.count as usize).rev() {
+            let value = self.single(log, chart, sweep.source, s);
+            tail = sweep.fold.combine(value, sweep.fold.since((s + 1) % width, tail));
+            put(tail, chart, sweep.first + s);
+        }
+    }
+
+    // To each cell, the beginning of the next block.
+    fn heads<G: Grade>(&self, log: &[G], sweep: Sweep, chart: &mut [Span<G>])
+        requires some { ⌜ 1 ≤ sweep .width ⌝ }
+        requires source { ⌜ Readable (progress-of (now self)) (now log) (sweep .first) (sweep .source) (sweep .count + sweep .width - 1) ⌝ }
+        requires room { ⌜ sweep .first + sweep .count ≤ length (now chart) ⌝ }
+        ensures { λ _. ⌜ Swept (sweep .first) 0 (sweep .count) (λ s d. combined (spans (G·Grade .ops)) (sweep .fold) (getD (now (chart .entry)) (sweep .first + s) d) (over (spans (G·Grade .ops)) (sweep .fold) (single-of (G·Grade .ops) (progress-of (now (self .entry))) (now (log .entry)) (now (chart .entry)) (sweep .source)) (s + sweep .width - s % sweep .width) (s % sweep .width))) (now (chart .entry)) (now (chart .exit)) ⌝ }
+    {
+        let width = sweep.width as usize;
+        let mut head = sweep.fold.none();
+        for s in 0..sweep.count as usize {
+            let value = self.single(log, chart, sweep.source, s + width - 1);
+            head = sweep.fold.since(s % width, sweep.fold.combine(head, value));
+            let here = cell(chart, sweep.first + s);
+            put(sweep.fold.combine(here, head), chart, sweep.first + s);
+        }
+    }
+
+    pub(super) fn slide<G: Grade>(&self, log: &[G], sweep: Sweep, chart: &mut [Span<G>])
+        requires source { ⌜ Readable (progress-of (now self)) (now log) (sweep .first) (sweep .source) (sweep .count + sweep .width - 1) ⌝ }
+        requires room { ⌜ sweep .first + sweep .count ≤ length (now chart) ⌝ }
+        ensures { λ _. ⌜ Swept (sweep .first) 0 (sweep .count) (λ s _. over (spans (G·Grade .ops)) (sweep .fold) (single-of (G·Grade .ops) (progress-of (now (self .entry))) (now (log .entry)) (now (chart .entry)) (sweep .source)) s (sweep .width)) (now (chart .entry)) (now (chart .exit)) ⌝ }
+    {
+        if sweep.width == 0 {
+            fill(sweep.fold.none(), chart, sweep.first, sweep.count as usize);
+        } else {
+            self.tails(log, sweep, chart);
+            self.heads(log, sweep, chart);
+        }
+    }
+}
