@@ -56,18 +56,18 @@ module _ {V : Type 0} (l : Lattice V) (p : Progress) (log : List V) (before : Li
       let (row, start) = of-cell c in
       at i d (inside c)
       ∙ cond-true (is-cell i) _ _ (and-from _ _ (lt-ltb _ _ (subst (λ n. n < length (p .sheet .rows)) (sym row) (c .row)))
-          (le-leb _ _ (subst (λ n. n ≤ rule-length (p .sheet)) (sym (ap₂ (λ a b. a + length-of (row-at (p .sheet .rows)) b) start row)) (c .ends))))
+      (le-leb _ _ (subst (λ n. n ≤ rule-length (p .sheet)) (sym (ap₂ (λ a b. a + length-of (row-at (p .sheet .rows)) b) start row)) (c .ends))))
       ∙ ap₂ (row-span l p log) row start
 
   other-stays : (i : ℕ) (d : Span V) → ((k s : ℕ) → Cell p k s i → ⊥) → getD after i d ≡ getD before i d
   unfolding filled-at is-cell
   other-stays i d none = ⊎-elim
       (λ less.
-          at i d less ∙ ⊎-elim
-          (λ t. let both = and-parts (ltb (i / take-length (p .sheet)) (length (p .sheet .rows))) _ t in
-              absurd (none (i / take-length (p .sheet)) (i % take-length (p .sheet)) (record { row = ltb-true _ _ (both .0); ends = leb-true _ _ (both .1); place = div-add-mod' i (take-length (p .sheet)) })))
-          (λ f. cond-false (is-cell i) _ _ f ∙ getD-default before i (unknown l) d less)
-          (cases-bool (is-cell i)))
+      at i d less ∙ ⊎-elim
+      (λ t. let both = and-parts (ltb (i / take-length (p .sheet)) (length (p .sheet .rows))) _ t in
+      absurd (none (i / take-length (p .sheet)) (i % take-length (p .sheet)) (record { row = ltb-true _ _ (both .0); ends = leb-true _ _ (both .1); place = div-add-mod' i (take-length (p .sheet)) })))
+      (λ f. cond-false (is-cell i) _ _ f ∙ getD-default before i (unknown l) d less)
+      (cases-bool (is-cell i)))
       (λ past. getD-past after i d (omega (arith, length-map-counting filled-at 0 (length before))) ∙ sym (getD-past before i d past))
       (cases-lt i (length before))
 
@@ -77,8 +77,12 @@ module _ {V : Type 0} (l : Lattice V) (p : Progress) (log : List V) (before : Li
   -- and the answer
   pub answered : Lawful l → mark-refusal p (length log) (length before) ≡ None → Marked l p log before after (Ok (mark-of l p log))
   answered law fine =
-      let span = mark-span l p log in
-      (fine, refl, (
-        (λ t. let both = and-parts (l .le (span .low) (span .high)) (l .le (span .high) (span .low)) t in law .antisymmetric (span .low) (span .high) (both .0) (both .1)),
-        (λ same. and-from _ _ (subst (λ x. l .le (span .low) x ≡ true) same (law .reflexive (span .low))) (subst (λ x. l .le x (span .low) ≡ true) same (law .reflexive (span .low))))
-      ), charted)
+      let span = mark-span l p log in (
+        fine,
+        refl,
+        (
+          (λ t. let both = and-parts (l .le (span .low) (span .high)) (l .le (span .high) (span .low)) t in law .antisymmetric (span .low) (span .high) (both .0) (both .1)),
+          (λ same. and-from _ _ (subst (λ x. l .le (span .low) x ≡ true) same (law .reflexive (span .low))) (subst (λ x. l .le x (span .low) ≡ true) same (law .reflexive (span .low)))),
+        ),
+        charted,
+      )

@@ -25,7 +25,6 @@ kept-by (is-sheet w same keeps) = keeps
 window-keeps : Keeps window
 window-keeps = kept-by (outcome-of (bytes-of window))
 
-
 abbrev marked-at : (n a b c d : ℕ) {es : List (Event Voices)} → Life voices window es n (log-of a b c d) → Life voices window (marked chart (Ok (mark-after n (log-of a b c d))) ∷ es) n (log-of a b c d)
 marked-at n a b c d life = marks life chart (after voices (progress window n) (log-of a b c d) chart (omega arith)) (Ok (mark-after n (log-of a b c d))) (answered voices (progress window n) (log-of a b c d) chart (omega arith) voices-lawful refl)
 

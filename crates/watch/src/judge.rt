@@ -13,7 +13,11 @@ use grade::YesNoGrade;
 use refusal::Refusal;
 
 // A mark, with what is promised of the whole life that led to it, for a translation of its grade.
-pub fn judge<T: Translation>(watch: &Watch, log: &[T::From], chart: &mut [Span<T::From>]) -> Result<Mark<T::From>, Refusal>
+pub fn judge<T: Translation>(
+    watch: &Watch,
+    log: &[T::From],
+    chart: &mut [Span<T::From>],
+) -> Result<Mark<T::From>, Refusal>
     ensures mark { λ r. ⌜ Marked (From·Grade .ops) (progress-of (now (watch .entry))) (now (log .entry)) (now (chart .entry)) (now (chart .exit)) r ⌝ }
     ensures whole_life { λ r. ⌜ ((t : T) → Lived (From·Grade .ops) (To·Grade .ops) (map t) (progress-of (now (watch .entry))) (now (log .entry)) (marked (now (chart .entry)) r)) ⌝ }
 {

@@ -78,7 +78,14 @@ pub(crate) fn flips<V: Grade>(from: usize, chart: &mut [V], first: usize, count:
 }
 
 // Each from one that stands from `left` on and one from `right` on.
-pub(crate) fn pair<V: Grade>(fold: Fold, left: usize, right: usize, chart: &mut [V], first: usize, count: usize)
+pub(crate) fn pair<V: Grade>(
+    fold: Fold,
+    left: usize,
+    right: usize,
+    chart: &mut [V],
+    first: usize,
+    count: usize,
+)
     requires left { ⌜ left + count ≤ first ⌝ }
     requires right { ⌜ right + count ≤ first ⌝ }
     requires room { ⌜ first + count ≤ length (now chart) ⌝ }

@@ -42,28 +42,83 @@ impl Watch {
             Row::Hold { duration, fact } => {
                 let source = Source::On { fact };
                 let width = duration as u16 + 1;
-                self.slide(log, Sweep { fold: Fold::Meet, source, width, first, count }, chart);
+                self.slide(
+                    log,
+                    Sweep {
+                        fold: Fold::Meet,
+                        source,
+                        width,
+                        first,
+                        count,
+                    },
+                    chart,
+                );
             }
             Row::HoldOff { duration, fact } => {
                 let source = Source::Off { fact };
                 let width = duration as u16 + 1;
-                self.slide(log, Sweep { fold: Fold::Meet, source, width, first, count }, chart);
+                self.slide(
+                    log,
+                    Sweep {
+                        fold: Fold::Meet,
+                        source,
+                        width,
+                        first,
+                        count,
+                    },
+                    chart,
+                );
             }
             Row::Both { left, right } => {
-                pair(Fold::Meet, place(frames, left, 0), place(frames, right, 0), chart, first, cells);
+                pair(
+                    Fold::Meet,
+                    place(frames, left, 0),
+                    place(frames, right, 0),
+                    chart,
+                    first,
+                    cells,
+                );
             }
             Row::Either { left, right } => {
-                pair(Fold::Join, place(frames, left, 0), place(frames, right, 0), chart, first, cells);
+                pair(
+                    Fold::Join,
+                    place(frames, left, 0),
+                    place(frames, right, 0),
+                    chart,
+                    first,
+                    cells,
+                );
             }
             Row::Not { row } => flips(place(frames, row, 0), chart, first, cells),
             Row::Then { left, right } => {
                 let next = lengths[left as usize] as u16 + 1;
-                pair(Fold::Meet, place(frames, left, 0), place(frames, right, next), chart, first, cells);
+                pair(
+                    Fold::Meet,
+                    place(frames, left, 0),
+                    place(frames, right, next),
+                    chart,
+                    first,
+                    cells,
+                );
             }
             Row::Within { from, to, row } => {
-                let source = Source::Cells { from: place(frames, row, from as u16) };
-                let width = (to as u16 + 1).saturating_sub(from as u16 + lengths[row as usize] as u16);
-                self.slide(log, Sweep { fold: Fold::Join, source, width, first, count }, chart);
+                let source = Source::Cells {
+                    from: place(frames, row, from as u16),
+                };
+                let width = (to as u16 + 1).saturating_sub(
+                    from as u16 + lengths[row as usize] as u16,
+                );
+                self.slide(
+                    log,
+                    Sweep {
+                        fold: Fold::Join,
+                        source,
+                        width,
+                        first,
+                        count,
+                    },
+                    chart,
+                );
             }
         }
     }

@@ -58,7 +58,9 @@ impl Watch {
         let mut tail = sweep.fold.none();
         for t in (count..count + width - 1).rev() {
             let value = self.single(log, chart, sweep.source, t);
-            tail = sweep.fold.combine(value, sweep.fold.since((t + 1) % width, tail));
+            tail = sweep
+                .fold
+                .combine(value, sweep.fold.since((t + 1) % width, tail));
         }
         tail
     }
@@ -74,7 +76,9 @@ impl Watch {
         let mut tail = self.last_tail(log, chart, sweep);
         for s in (0..sweep.count as usize).rev() {
             let value = self.single(log, chart, sweep.source, s);
-            tail = sweep.fold.combine(value, sweep.fold.since((s + 1) % width, tail));
+            tail = sweep
+                .fold
+                .combine(value, sweep.fold.since((s + 1) % width, tail));
             put(tail, chart, sweep.first + s);
         }
     }

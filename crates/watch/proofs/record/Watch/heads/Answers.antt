@@ -42,13 +42,13 @@ loop-s-again g c =
     let less : s + w - 1 < m = omega (arith, c .loop-s-test .taken, c .pre .some) in
     let value = c .single-value .ensures ∙ single-same (g .G·Grade .ops) p (c .args .log .now) (sweep .first) (c .args .chart .now) (c .loop-s .chart) (sweep .source) m (s + w - 1) (c .pre .source) less (swept-below so) in
     let head = c .since-head .ensures ∙ ap (cond (eqb (s % w) 0) (none l f)) (c .combine .ensures ∙ ap (combined l f (c .loop-s .head)) value)
-        ∙ head-now law f at w (c .pre .some) s (c .loop-s .head) (c .loop-s .inv .0) in
+    ∙ head-now law f at w (c .pre .some) s (c .loop-s .head) (c .loop-s .inv .0) in
     let there : sweep .first + s < length (c .loop-s .chart) = omega (arith, so .size, c .pre .room, c .loop-s-test .taken) in (
       head-next law f at w (c .pre .some) s (c .since-head .result) head,
       subst (Swept (sweep .first) 0 (s + 1) (λ i d. combined l f (getD (c .args .chart .now) (sweep .first + i) d) (over l f at (i + w - i % w) (i % w))) (c .args .chart .now)) (sym (c .put .ensures))
-      (swept-up _ _ _ _ _ _ _ (omega arith) there
-      (λ d. c .combine-in-loop-s .ensures ∙ ap₂ (combined l f) (c .cell-here .ensures d ∙ so .rest _ d (λ i lo hi e. omega arith)) head)
-      so),
+          (swept-up _ _ _ _ _ _ _ (omega arith) there
+          (λ d. c .combine-in-loop-s .ensures ∙ ap₂ (combined l f) (c .cell-here .ensures d ∙ so .rest _ d (λ i lo hi e. omega arith)) head)
+          so),
     )
 
 pub returns : need.returns

@@ -43,7 +43,7 @@ loop-t-again g c =
       omega (arith, c .loop-t-test .taken),
       omega (arith, inv .1),
       c .combine-tail .ensures ∙ ap₂ (combined l (sweep .fold)) (c .single-value .ensures) (c .since .ensures)
-      ∙ tail-step law (sweep .fold) at (sweep .width) (c .pre .some) m t (c .loop-t .tail) (omega (arith, inv .1, up)) (inv .2 ∙ ap (λ i. over l (sweep .fold) at i (reach m (sweep .width) i)) up),
+          ∙ tail-step law (sweep .fold) at (sweep .width) (c .pre .some) m t (c .loop-t .tail) (omega (arith, inv .1, up)) (inv .2 ∙ ap (λ i. over l (sweep .fold) at i (reach m (sweep .width) i)) up),
     )
 
 pub returns : need.returns

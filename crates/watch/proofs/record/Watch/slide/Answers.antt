@@ -39,9 +39,9 @@ returns-else-sweep-eq0 g c =
     let tails = c .tails .ensures in
     swept-then _ _ _ _ _ old mid _ tails (c .heads .ensures)
     (λ s d less.
-        let under : s % w < w = mod-lt s some in
-        ap₂ (combined l f)
-        (tails .cells s d (omega arith) less)
-        (over-same l f now at (s + w - s % w) (s + w - s % w) (s % w)
-            (λ i lt. single-same (g .G·Grade .ops) p (c .args .log .now) (sweep .first) old mid (sweep .source) m (s + w - s % w + i) (c .pre .source) (omega arith) (swept-below tails)))
-        ∙ both-parts law f at w some s)
+    let under : s % w < w = mod-lt s some in
+    ap₂ (combined l f)
+    (tails .cells s d (omega arith) less)
+    (over-same l f now at (s + w - s % w) (s + w - s % w) (s % w)
+    (λ i lt. single-same (g .G·Grade .ops) p (c .args .log .now) (sweep .first) old mid (sweep .source) m (s + w - s % w + i) (c .pre .source) (omega arith) (swept-below tails)))
+    ∙ both-parts law f at w some s)

@@ -43,13 +43,13 @@ loop-s-again g c =
     let less : s < m = omega (arith, inv .0, up, c .pre .some) in
     let value = c .single-value .ensures ∙ single-same (g .G·Grade .ops) p (c .args .log .now) (sweep .first) (c .args .chart .now) (c .loop-s .chart) (sweep .source) m s (c .pre .source) less (swept-below (inv .2)) in
     let tail = c .combine-tail .ensures ∙ ap₂ (combined l (sweep .fold)) value (c .since .ensures)
-        ∙ tail-step law (sweep .fold) at (sweep .width) (c .pre .some) m s (c .loop-s .tail) less (inv .1 ∙ ap (λ i. over l (sweep .fold) at i (reach m (sweep .width) i)) up) in
+    ∙ tail-step law (sweep .fold) at (sweep .width) (c .pre .some) m s (c .loop-s .tail) less (inv .1 ∙ ap (λ i. over l (sweep .fold) at i (reach m (sweep .width) i)) up) in
     let whole = reach-whole m (sweep .width) s (sweep .count) (c .pre .some) (omega (arith, c .pre .some)) (omega (arith, inv .0, up)) in (
       omega (arith, inv .0),
       tail,
       subst (Swept (sweep .first) s (sweep .count) (λ i _. over l (sweep .fold) at i (sweep .width - i % sweep .width)) (c .args .chart .now)) (sym (c .put .ensures))
-      (swept-down _ s _ _ _ _ _ (omega (arith, inv .0, up)) (omega (arith, inv .0, up, inv .2 .size, c .pre .room)) (λ d. tail ∙ ap (over l (sweep .fold) at s) whole)
-      (subst (λ n. Swept (sweep .first) n (sweep .count) (λ i _. over l (sweep .fold) at i (sweep .width - i % sweep .width)) (c .args .chart .now) (c .loop-s .chart)) up (inv .2))),
+          (swept-down _ s _ _ _ _ _ (omega (arith, inv .0, up)) (omega (arith, inv .0, up, inv .2 .size, c .pre .room)) (λ d. tail ∙ ap (over l (sweep .fold) at s) whole)
+          (subst (λ n. Swept (sweep .first) n (sweep .count) (λ i _. over l (sweep .fold) at i (sweep .width - i % sweep .width)) (c .args .chart .now) (c .loop-s .chart)) up (inv .2))),
     )
 
 pub returns : need.returns

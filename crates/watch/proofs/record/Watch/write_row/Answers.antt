@@ -135,8 +135,8 @@ returns-in-Always g c =
     let n-is = frames-is (progress-of (c .args .self .now)) _ _ (c .from-frames .ensures) (c .length .ensures) in
     charted-from ready _ _ _ _ _ _ n-is (c .place-first .ensures) mine refl (c .fill .ensures)
     (λ s d h.
-        c .top .ensures
-        ∙ span-is ready _ e s)
+    c .top .ensures
+    ∙ span-is ready _ e s)
 
 pub returns-in-Hold : need.returns-in-Hold
 returns-in-Hold g c =
@@ -149,8 +149,8 @@ returns-in-Hold g c =
     let n-is = frames-is (progress-of (c .args .self .now)) _ _ (c .from-frames .ensures) (c .length .ensures) in
     charted-from ready _ _ _ _ _ _ n-is (c .place-first .ensures) mine refl (c .slide .ensures)
     (λ s d h.
-        ap (meet-over (spans (g .G·Grade .ops)) (λ t. seen (g .G·Grade .ops) (progress-of (c .args .self .now)) (c .args .log .now) t (c .in-Hold .fact)) s) (add-one (c .in-Hold .duration))
-        ∙ span-is ready _ e s)
+    ap (meet-over (spans (g .G·Grade .ops)) (λ t. seen (g .G·Grade .ops) (progress-of (c .args .self .now)) (c .args .log .now) t (c .in-Hold .fact)) s) (add-one (c .in-Hold .duration))
+    ∙ span-is ready _ e s)
 
 pub returns-in-HoldOff : need.returns-in-HoldOff
 returns-in-HoldOff g c =
@@ -163,8 +163,8 @@ returns-in-HoldOff g c =
     let n-is = frames-is (progress-of (c .args .self .now)) _ _ (c .from-frames .ensures) (c .length .ensures) in
     charted-from ready _ _ _ _ _ _ n-is (c .place-first .ensures) mine refl (c .slide-in-HoldOff .ensures)
     (λ s d h.
-        ap (meet-over (spans (g .G·Grade .ops)) (λ t. spans (g .G·Grade .ops) .flip (seen (g .G·Grade .ops) (progress-of (c .args .self .now)) (c .args .log .now) t (c .in-HoldOff .fact))) s) (add-one (c .in-HoldOff .duration))
-        ∙ span-is ready _ e s)
+    ap (meet-over (spans (g .G·Grade .ops)) (λ t. spans (g .G·Grade .ops) .flip (seen (g .G·Grade .ops) (progress-of (c .args .self .now)) (c .args .log .now) t (c .in-HoldOff .fact))) s) (add-one (c .in-HoldOff .duration))
+    ∙ span-is ready _ e s)
 
 pub returns-in-Both : need.returns-in-Both
 returns-in-Both g c =
@@ -177,10 +177,10 @@ returns-in-Both g c =
     let n-is = frames-is (progress-of (c .args .self .now)) _ _ (c .from-frames .ensures) (c .length .ensures) in
     charted-from ready _ _ _ _ _ _ n-is (c .place-first .ensures) mine refl (c .pair .ensures)
     (λ s d h.
-        ap₂ (spans (g .G·Grade .ops) .meet)
-          (cell-from ready _ _ (c .in-Both .left) 0 s s d n-is (c .place .ensures) (named-lower ready _ e _ (has-left _ (c .in-Both .right))) (zero-add s) (omega (arith, h, here)))
-          (cell-from ready _ _ (c .in-Both .right) 0 s s d n-is (c .place-in-Both .ensures) (named-lower ready _ e _ (has-right (c .in-Both .left) _)) (zero-add s) (omega (arith, h, here)))
-        ∙ span-is ready _ e s)
+    ap₂ (spans (g .G·Grade .ops) .meet)
+    (cell-from ready _ _ (c .in-Both .left) 0 s s d n-is (c .place .ensures) (named-lower ready _ e _ (has-left _ (c .in-Both .right))) (zero-add s) (omega (arith, h, here)))
+    (cell-from ready _ _ (c .in-Both .right) 0 s s d n-is (c .place-in-Both .ensures) (named-lower ready _ e _ (has-right (c .in-Both .left) _)) (zero-add s) (omega (arith, h, here)))
+    ∙ span-is ready _ e s)
 
 pub returns-in-Either : need.returns-in-Either
 returns-in-Either g c =
@@ -193,10 +193,10 @@ returns-in-Either g c =
     let n-is = frames-is (progress-of (c .args .self .now)) _ _ (c .from-frames .ensures) (c .length .ensures) in
     charted-from ready _ _ _ _ _ _ n-is (c .place-first .ensures) mine refl (c .pair-in-Either .ensures)
     (λ s d h.
-        ap₂ (spans (g .G·Grade .ops) .join)
-          (cell-from ready _ _ (c .in-Either .left) 0 s s d n-is (c .place-in-Either .ensures) (named-lower ready _ e _ (has-left _ (c .in-Either .right))) (zero-add s) (omega (arith, h, here)))
-          (cell-from ready _ _ (c .in-Either .right) 0 s s d n-is (c .place-in-Either-2 .ensures) (named-lower ready _ e _ (has-right (c .in-Either .left) _)) (zero-add s) (omega (arith, h, here)))
-        ∙ span-is ready _ e s)
+    ap₂ (spans (g .G·Grade .ops) .join)
+    (cell-from ready _ _ (c .in-Either .left) 0 s s d n-is (c .place-in-Either .ensures) (named-lower ready _ e _ (has-left _ (c .in-Either .right))) (zero-add s) (omega (arith, h, here)))
+    (cell-from ready _ _ (c .in-Either .right) 0 s s d n-is (c .place-in-Either-2 .ensures) (named-lower ready _ e _ (has-right (c .in-Either .left) _)) (zero-add s) (omega (arith, h, here)))
+    ∙ span-is ready _ e s)
 
 pub returns-in-Not : need.returns-in-Not
 returns-in-Not g c =
@@ -209,9 +209,9 @@ returns-in-Not g c =
     let n-is = frames-is (progress-of (c .args .self .now)) _ _ (c .from-frames .ensures) (c .length .ensures) in
     charted-from ready _ _ _ _ _ _ n-is (c .place-first .ensures) mine refl (c .flips .ensures)
     (λ s d h.
-        ap (spans (g .G·Grade .ops) .flip)
-          (cell-from ready _ _ (c .in-Not .row) 0 s s d n-is (c .place-in-Not .ensures) (named-lower ready _ e _ (has-one (c .in-Not .row))) (zero-add s) (omega (arith, h, here)))
-        ∙ span-is ready _ e s)
+    ap (spans (g .G·Grade .ops) .flip)
+    (cell-from ready _ _ (c .in-Not .row) 0 s s d n-is (c .place-in-Not .ensures) (named-lower ready _ e _ (has-one (c .in-Not .row))) (zero-add s) (omega (arith, h, here)))
+    ∙ span-is ready _ e s)
 
 pub returns-in-Then : need.returns-in-Then
 returns-in-Then g c =
@@ -227,10 +227,10 @@ returns-in-Then g c =
     let ahead = horizon-length (row-at (progress-of (c .args .self .now) .sheet .rows)) (c .in-Then .left) in
     charted-from ready _ _ _ _ _ _ n-is (c .place-first .ensures) mine refl (c .pair-in-Then .ensures)
     (λ s d h.
-        ap₂ (spans (g .G·Grade .ops) .meet)
-          (cell-from ready _ _ (c .in-Then .left) 0 s s d n-is (c .place-in-Then .ensures) lower (zero-add s) (omega (arith, h, here)))
-          (cell-from ready _ _ (c .in-Then .right) _ s _ d n-is (c .place-in-Then-2 .ensures) (named-lower ready _ e _ (has-right (c .in-Then .left) _)) (omega (arith, part, ahead)) (omega (arith, h, here, ahead)))
-        ∙ span-is ready _ e s)
+    ap₂ (spans (g .G·Grade .ops) .meet)
+    (cell-from ready _ _ (c .in-Then .left) 0 s s d n-is (c .place-in-Then .ensures) lower (zero-add s) (omega (arith, h, here)))
+    (cell-from ready _ _ (c .in-Then .right) _ s _ d n-is (c .place-in-Then-2 .ensures) (named-lower ready _ e _ (has-right (c .in-Then .left) _)) (omega (arith, part, ahead)) (omega (arith, h, here, ahead)))
+    ∙ span-is ready _ e s)
 
 pub returns-in-Within : need.returns-in-Within
 returns-in-Within g c =
@@ -250,7 +250,7 @@ returns-in-Within g c =
     let from = c .place-in-Within .result in
     charted-from ready _ _ _ _ _ _ n-is (c .place-first .ensures) mine refl (c .slide-in-Within .ensures)
     (λ s d h.
-        over-same l Join (λ t. getD (c .args .chart .now) (from + t) (l .bottom)) at s (s + c .in-Within .from) (c .saturating-sub-width .result)
-        (λ i less. cell-from ready _ _ (c .in-Within .row) (c .in-Within .from) (s + i) _ (l .bottom) n-is (c .place-in-Within .ensures) lower (omega arith) (omega (arith, h, here, part, width, less)))
-        ∙ ap (join-over l at (s + c .in-Within .from)) (omega (arith, width, part, ahead))
-        ∙ span-is ready _ e s)
+    over-same l Join (λ t. getD (c .args .chart .now) (from + t) (l .bottom)) at s (s + c .in-Within .from) (c .saturating-sub-width .result)
+    (λ i less. cell-from ready _ _ (c .in-Within .row) (c .in-Within .from) (s + i) _ (l .bottom) n-is (c .place-in-Within .ensures) lower (omega arith) (omega (arith, h, here, part, width, less)))
+    ∙ ap (join-over l at (s + c .in-Within .from)) (omega (arith, width, part, ahead))
+    ∙ span-is ready _ e s)
