@@ -41,14 +41,14 @@ module _ {V : Type 0} {l : Lattice V} (law : Lawful l) (f : Fold) (at : ℕ → 
   tail-step m t tail less is =
       ⊎-elim
       (λ ends.
-          let one : 1 ≡ reach m w t = omega (arith, ends .0, mod-le t w) in
-          ap (combined l f (at t)) (cond-true _ _ _ (eq-eqb _ _ (ends .1)) ∙ sym (over-none l f at (suc t)))
-          ∙ sym (over-more l f at t 0) ∙ ap (over l f at t) one)
+      let one : 1 ≡ reach m w t = omega (arith, ends .0, mod-le t w) in
+      ap (combined l f (at t)) (cond-true _ _ _ (eq-eqb _ _ (ends .1)) ∙ sym (over-none l f at (suc t)))
+      ∙ sym (over-more l f at t 0) ∙ ap (over l f at t) one)
       (λ goes.
-          let more : suc (reach m w (t + 1)) ≡ reach m w t = omega (arith, goes .0, goes .1, mod-le t w) in
-          let further : (t + 1) % w ≡ 0 → ⊥ = (λ e. omega (arith, goes .1)) in
-          ap (combined l f (at t)) (cond-false _ _ _ (ne-eqb _ _ further) ∙ is ∙ ap (λ i. over l f at i (reach m w (t + 1))) (add-one t))
-          ∙ sym (over-more l f at t (reach m w (t + 1))) ∙ ap (over l f at t) more)
+      let more : suc (reach m w (t + 1)) ≡ reach m w t = omega (arith, goes .0, goes .1, mod-le t w) in
+      let further : (t + 1) % w ≡ 0 → ⊥ = (λ e. omega (arith, goes .1)) in
+      ap (combined l f (at t)) (cond-false _ _ _ (ne-eqb _ _ further) ∙ is ∙ ap (λ i. over l f at i (reach m w (t + 1))) (add-one t))
+      ∙ sym (over-more l f at t (reach m w (t + 1))) ∙ ap (over l f at t) more)
       (next-place t w some)
 
   head-now-at : (s : ℕ) (head : V) → (s % w ≡ 0 → ⊥) → head ≡ over l f at (s + w - s % w) (s % w - 1) → combined l f head (at (s + w - 1)) ≡ over l f at (s + w - s % w) (s % w)

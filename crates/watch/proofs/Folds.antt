@@ -18,22 +18,22 @@ module _ {V : Type 0} {l : Lattice V} (law : Lawful l) where
       let m = l .meet in
       law .antisymmetric _ _
       (law .meet-above x (m y z) _
-        (under _ (m x y) x (law .meet-left (m x y) z) (law .meet-left x y))
-        (law .meet-above y z _ (under _ (m x y) y (law .meet-left (m x y) z) (law .meet-right x y)) (law .meet-right (m x y) z)))
+      (under _ (m x y) x (law .meet-left (m x y) z) (law .meet-left x y))
+      (law .meet-above y z _ (under _ (m x y) y (law .meet-left (m x y) z) (law .meet-right x y)) (law .meet-right (m x y) z)))
       (law .meet-above (m x y) z _
-        (law .meet-above x y _ (law .meet-left x (m y z)) (under _ (m y z) y (law .meet-right x (m y z)) (law .meet-left y z)))
-        (under _ (m y z) z (law .meet-right x (m y z)) (law .meet-right y z)))
+      (law .meet-above x y _ (law .meet-left x (m y z)) (under _ (m y z) y (law .meet-right x (m y z)) (law .meet-left y z)))
+      (under _ (m y z) z (law .meet-right x (m y z)) (law .meet-right y z)))
 
   join-assoc : (x y z : V) → l .join (l .join x y) z ≡ l .join x (l .join y z)
   join-assoc x y z =
       let j = l .join in
       law .antisymmetric _ _
       (law .join-below (j x y) z _
-        (law .join-below x y _ (law .join-left x (j y z)) (under y (j y z) _ (law .join-left y z) (law .join-right x (j y z))))
-        (under z (j y z) _ (law .join-right y z) (law .join-right x (j y z))))
+      (law .join-below x y _ (law .join-left x (j y z)) (under y (j y z) _ (law .join-left y z) (law .join-right x (j y z))))
+      (under z (j y z) _ (law .join-right y z) (law .join-right x (j y z))))
       (law .join-below x (j y z) _
-        (under x (j x y) _ (law .join-left x y) (law .join-left (j x y) z))
-        (law .join-below y z _ (under y (j x y) _ (law .join-right x y) (law .join-left (j x y) z)) (law .join-right (j x y) z)))
+      (under x (j x y) _ (law .join-left x y) (law .join-left (j x y) z))
+      (law .join-below y z _ (under y (j x y) _ (law .join-right x y) (law .join-left (j x y) z)) (law .join-right (j x y) z)))
 
   pub assoc : (f : Fold) (x y z : V) → combined l f (combined l f x y) z ≡ combined l f x (combined l f y z)
   assoc Meet x y z = meet-assoc x y z
@@ -60,8 +60,8 @@ module _ {V : Type 0} (l : Lattice V) (f : Fold) where
   over-same a b s s′ (suc n) h =
       over-more a s n
       ∙ ap₂ (combined l f)
-        (ap a (sym (add-zero s)) ∙ h 0 (omega arith) ∙ ap b (add-zero s′))
-        (over-same a b (suc s) (suc s′) n (λ i lt. ap a (omega arith) ∙ h (suc i) (omega arith) ∙ ap b (omega arith)))
+      (ap a (sym (add-zero s)) ∙ h 0 (omega arith) ∙ ap b (add-zero s′))
+      (over-same a b (suc s) (suc s′) n (λ i lt. ap a (omega arith) ∙ h (suc i) (omega arith) ∙ ap b (omega arith)))
       ∙ sym (over-more b s′ n)
 
 module _ {V : Type 0} {l : Lattice V} (law : Lawful l) (f : Fold) (at : ℕ → V) where

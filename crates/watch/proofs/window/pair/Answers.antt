@@ -15,11 +15,11 @@ loop-s-again g c =
     let so = c .loop-s .inv in
     swept-up _ _ _ _ _ _ _ (omega arith) (omega (arith, so .size))
     (λ d.
-        c .combine .ensures
-        ∙ ap₂ (combined (g .V·Grade .ops) (c .args .fold))
-          (getD-read (c .loop-s .chart) _ _ (omega (arith, so .size)) (c .index-chart-left .is) d ∙ swept-below so _ d (omega arith))
-          (getD-read (c .loop-s .chart) _ _ (omega (arith, so .size)) (c .index-chart-right .is) d ∙ swept-below so _ d (omega arith)))
+    c .combine .ensures
+    ∙ ap₂ (combined (g .V·Grade .ops) (c .args .fold))
+    (getD-read (c .loop-s .chart) _ _ (omega (arith, so .size)) (c .index-chart-left .is) d ∙ swept-below so _ d (omega arith))
+    (getD-read (c .loop-s .chart) _ _ (omega (arith, so .size)) (c .index-chart-right .is) d ∙ swept-below so _ d (omega arith)))
     so
 
 pub returns : need.returns
-returns g c = subst (λ n. Swept (c .args .first) 0 n (λ s d. combined (g .V·Grade .ops) (c .args .fold) (getD (c .args .chart .now) (c .args .left + s) d) (getD (c .args .chart .now) (c .args .right + s) d)) (c .args .chart .now) (c .loop-s .chart)) (omega arith) (c .loop-s .inv)
+returns g c = subst (λ n. Swept (c .args .to .first) 0 n (λ s d. combined (g .V·Grade .ops) (c .args .fold) (getD (c .args .chart .now) (c .args .left + s) d) (getD (c .args .chart .now) (c .args .right + s) d)) (c .args .chart .now) (c .loop-s .chart)) (omega arith) (c .loop-s .inv)

@@ -35,7 +35,7 @@ returns g c =
     let so = subst (λ k. Sofar l p log k (c .args .chart .now) (c .loop-k .chart)) end (c .loop-k .inv) in (
       no-refusal p _ _ (enough-log p _ _ _ (c .facts .ensures) n-is (c .if-log-facts .left)) (enough-chart p _ _ _ _ rows-is n-is (c .place .ensures) (c .if-chart-place .left)),
       c .cell-span .ensures (spans l .bottom)
-      ∙ last-cell l p log _ _ (c .args .chart .now) (c .loop-k .chart) (spans l .bottom) (c .rows .ensures .keeps .some-row) n-is (c .place-2 .ensures ∙ ap (λ m. (m - 1) * (c .from-frames .result + 1) + 0) rows-is) so,
+          ∙ last-cell l p log _ _ (c .args .chart .now) (c .loop-k .chart) (spans l .bottom) (c .rows .ensures .keeps .some-row) n-is (c .place-2 .ensures ∙ ap (λ m. (m - 1) * (c .from-frames .result + 1) + 0) rows-is) so,
       c .is-exact .ensures,
       all-charted l p log _ _ so,
     )
