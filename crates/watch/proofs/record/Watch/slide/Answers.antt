@@ -1,8 +1,7 @@
-use mathlib.Core.Path.{_≡_, sym, ap, ap₂, _∙_}
+use mathlib.Core.Path.{sym, ap, ap₂, _∙_}
 use Prim.Native.Nat.{ℕ, _+_, _-_, _%_, _≤_, _<_}
 use native.Mathlib.Nat.{mod-lt}
 use native.Mathlib.Omega.{arith}
-use lib.ListN.{getD}
 use Rattle.grade.specs.Spans.{spans}
 use Rattle.grade.specs.declared.span.Span.{Span}
 use Rattle.grade.proofs.SpanLaws.{spans-lawful}

@@ -1,7 +1,6 @@
 use mathlib.Core.Path.{_≡_, sym, ap, ap₂, subst, _∙_}
 use Prim.Native.Nat.{ℕ, _+_, _-_, _%_, _<_}
 use native.Mathlib.Omega.{arith}
-use lib.ListN.{length}
 use Rattle.grade.specs.Spans.{spans}
 use Rattle.grade.specs.declared.span.Span.{Span}
 use Rattle.grade.proofs.SpanLaws.{spans-lawful}

@@ -1,13 +1,12 @@
-use mathlib.Core.Path.{_≡_, refl, sym, ap, ap₂, _∙_}
-use Prim.Native.Nat.{ℕ, suc, _+_, _-_, _≤_, _<_, max}
-use native.Mathlib.Nat.{zero-add, add-assoc}
+use mathlib.Core.Path.{refl, sym, ap, ap₂, _∙_}
+use Prim.Native.Nat.{_+_, _-_}
+use native.Mathlib.Nat.{zero-add}
 use native.Mathlib.Numerals.{add-one}
 use native.Mathlib.Omega.{arith}
 use lib.ListN.{length, getD}
 use Rattle.grade.specs.Spans.{spans}
 use Rattle.formula.specs.Grades.{meet-over, join-over}
 use Rattle.sheet.specs.Rules.{row-at}
-use Rattle.sheet.specs.declared.row.Row.the-variants.{Always, Hold, HoldOff, Both, Either, Not, Then, Within}
 use Rattle.rule.proofs.Trees.{has-one, has-left, has-right, horizon-length}
 use Rattle.watch.specs.declared.window.Fold.the-variants.{Join}
 use Rattle.watch.specs.Feeding.{progress-of}
