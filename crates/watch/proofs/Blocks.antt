@@ -1,8 +1,8 @@
 -- Values in blocks of a width: a window reaches from the middle of one block into the next.
-use mathlib.Core.Path.{_≡_, refl, sym, ap, ap₂, subst, _∙_}
+use mathlib.Core.Path.{_≡_, sym, ap, ap₂, _∙_}
 use mathlib.Core.Logic.{_⊎_, inl, inr, ⊎-elim}
 use mathlib.Core.Bool.{cond}
-use Prim.Native.Nat.{ℕ, zero, suc, _+_, _-_, _%_, _≤_, _<_, min}
+use Prim.Native.Nat.{ℕ, suc, _+_, _-_, _%_, _≤_, _<_}
 use native.Mathlib.Nat.{zero-mod, mod-lt, mod-le, mod-self, mod-eq-of-lt, mod-add-mod}
 use native.Mathlib.Numerals.{add-one}
 use native.Mathlib.Omega.{arith}
@@ -11,7 +11,7 @@ use Rattle.std.proofs.shelf.Tests.{cases-lt, cases-eq, cond-true, cond-false, e
 use Rattle.grade.specs.Lattice.{Lattice, Lawful}
 use Rattle.watch.specs.declared.window.Fold.{Fold}
 use Rattle.watch.specs.Windows.{combined, none, over, reach}
-use Rattle.watch.proofs.Folds.{none-left, over-none, over-more, over-one, over-split}
+use Rattle.watch.proofs.Folds.{over-none, over-more, over-one, over-split}
 
 -- the next place is the first of a block, or one further in the same
 pub next-place : (t w : ℕ) → 1 ≤ w → ((t % w + 1 ≡ w) × ((t + 1) % w ≡ 0)) ⊎ ((t % w + 1 < w) × ((t + 1) % w ≡ t % w + 1))

@@ -1,25 +1,25 @@
 -- A row's grades from the facts or from the cells of the rows below it.
-use mathlib.Core.Path.{_≡_, refl, sym, ap, ap₂, subst, _∙_, fun-ext}
-use mathlib.Core.Bool.{true, _&&_}
+use mathlib.Core.Path.{_≡_, sym, ap, subst, _∙_, fun-ext}
+use mathlib.Core.Bool.{true}
 use mathlib.Core.List.{List, [], _∷_}
-use Prim.Native.Nat.{ℕ, suc, _+_, _-_, _*_, _≤_, _<_, max}
+use Prim.Native.Nat.{ℕ, _+_, _-_, _*_, _≤_, _<_}
 use native.Mathlib.Nat.{add-zero}
 use native.Mathlib.Omega.{arith}
-use lib.Dec.{leb, ltb}
+use lib.Dec.{leb}
 use lib.ListN.{length, getD}
 use Rattle.std.proofs.shelf.Tests.{and-parts, leb-true}
 use Rattle.grade.specs.Lattice.{Lattice}
 use Rattle.grade.specs.Spans.{spans}
 use Rattle.grade.specs.declared.span.Span.{Span}
 use Rattle.formula.specs.Formula.{horizon}
-use Rattle.formula.specs.Grades.{grade, meet-over, join-over}
+use Rattle.formula.specs.Grades.{grade}
 use Rattle.sheet.specs.Rows.{facts-of, named-by, window-right, row-length}
-use Rattle.sheet.specs.Rules.{has, all-under, in-range, row-at, length-of, Keeps}
+use Rattle.sheet.specs.Rules.{has, all-under, in-range, row-at}
 use Rattle.sheet.specs.Sheets.{rule-length}
 use Rattle.sheet.specs.declared.row.Row.{Row}
-use Rattle.sheet.specs.declared.row.Row.the-variants.{Always, Hold, HoldOff, Both, Either, Not, Then, Within}
+use Rattle.sheet.specs.declared.row.Row.the-variants.{Within}
 use Rattle.rule.specs.Trees.{tree-at, tree-of}
-use Rattle.rule.proofs.Trees.{has-one, has-left, has-right, has-lower, horizon-by-named, horizon-length, tree-step, kept-lower}
+use Rattle.rule.proofs.Trees.{has-lower, horizon-by-named, horizon-length, tree-step, kept-lower}
 use Rattle.watch.specs.Feeding.{Progress, take-length}
 use Rattle.watch.specs.Marking.{seen, row-span}
 use Rattle.watch.specs.Cells.{long, Ready, Row-charted}

@@ -1,22 +1,19 @@
 -- A chart whose rows are written one after the other.
 use mathlib.Core.Path.{_≡_, refl, sym, ap, ap₂, subst, _∙_}
 use mathlib.Core.Logic.{⊎-elim}
-use mathlib.Core.Bool.{cond}
 use mathlib.Core.List.{List}
 use Prim.Native.Nat.{ℕ, _+_, _-_, _*_, _≤_, _<_}
 use native.Mathlib.Nat.{add-zero}
 use native.Mathlib.Omega.{arith}
-use lib.Dec.{ltb}
 use lib.ListN.{length, getD}
-use Rattle.std.specs.declared.option.Option.the-variants.{Some, None}
+use Rattle.std.specs.declared.option.Option.the-variants.{None}
 use Rattle.std.proofs.shelf.Tests.{cases-eq, cond-false, le-ltb}
-use Rattle.refusal.specs.declared.Refusal.the-variants.{ShortLog, ShortChart}
 use Rattle.grade.specs.Lattice.{Lattice}
 use Rattle.grade.specs.declared.span.Span.{Span}
 use Rattle.sheet.specs.Rules.{Keeps}
 use Rattle.sheet.specs.Sheets.{rule-length}
 use Rattle.watch.specs.Feeding.{Progress, take-length}
-use Rattle.watch.specs.Marking.{row-span, mark-refusal, Cell, Charted}
+use Rattle.watch.specs.Marking.{row-span, mark-refusal, Charted}
 use Rattle.watch.specs.Cells.{long, Ready, Row-charted}
 use Rattle.watch.proofs.Places.{strictly}
 

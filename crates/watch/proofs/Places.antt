@@ -1,6 +1,6 @@
 -- Where a frame's fact stands in a log, and a row's cell in a chart.
 use Prim.Native.Nat.{ℕ, _+_, _*_, _≤_, _<_}
-use native.Mathlib.Nat.{add-mul, one-mul, mul-comm, mul-le-mul-right}
+use native.Mathlib.Nat.{add-mul, one-mul, mul-le-mul-right}
 use native.Mathlib.Omega.{arith}
 
 -- the part s of row k ends before row k + 1 begins

@@ -3,7 +3,7 @@ use mathlib.Core.Path.{_≡_, refl}
 use mathlib.Core.List.{List}
 use Prim.Native.Nat.{ℕ, _+_, _≤_, _<_}
 use native.Mathlib.Omega.{arith}
-use lib.ListN.{length, getD}
+use lib.ListN.{getD}
 use Rattle.grade.specs.Lattice.{Lattice}
 use Rattle.grade.specs.declared.span.Span.{Span}
 use Rattle.watch.specs.declared.sweep.Source.{Source}

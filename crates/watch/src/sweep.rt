@@ -1,6 +1,4 @@
-// What a sweep over the starts of a row folds, and where it puts the folds.
-use crate::window::Fold;
-
+// What is folded along the starts of a row, and the cells that it goes to.
 // The values of a fact, their flips, or the cells of a row from a place of the chart on.
 #[derive(Clone, Copy)]
 pub(crate) enum Source {
@@ -9,12 +7,9 @@ pub(crate) enum Source {
     Cells { from: usize },
 }
 
-// The cell of each of `count` starts takes the fold of `width` values from that start on.
+// Some cells of a chart, side by side.
 #[derive(Clone, Copy)]
-pub(crate) struct Sweep {
-    pub fold: Fold,
-    pub source: Source,
-    pub width: u16,
+pub(crate) struct Stretch {
     pub first: usize,
     pub count: u16,
 }

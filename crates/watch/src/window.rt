@@ -5,6 +5,7 @@ ghost use mathlib.Core.Bool.{cond};
 ghost use lib.Dec.{eqb};
 ghost use lib.ListN.{length, getD, set};
 ghost use Rattle.watch.specs.Windows.{combined, none, Swept};
+use crate::sweep::Stretch;
 use grade::Grade;
 
 // The two ways to make one grade of two.
@@ -56,44 +57,37 @@ pub(crate) fn put<V: Grade>(value: V, chart: &mut [V], place: usize)
     chart[place] = value;
 }
 
-pub(crate) fn fill<V: Grade>(value: V, chart: &mut [V], first: usize, count: usize)
-    requires { ⌜ first + count ≤ length (now chart) ⌝ }
-    ensures { λ _. ⌜ Swept first 0 count (λ _ _. value) (now (chart .entry)) (now (chart .exit)) ⌝ }
+pub(crate) fn fill<V: Grade>(value: V, to: Stretch, chart: &mut [V])
+    requires { ⌜ to .first + to .count ≤ length (now chart) ⌝ }
+    ensures { λ _. ⌜ Swept (to .first) 0 (to .count) (λ _ _. value) (now (chart .entry)) (now (chart .exit)) ⌝ }
 {
-    for s in 0..count {
-        chart[first + s] = value;
+    for s in 0..to.count as usize {
+        chart[to.first + s] = value;
     }
 }
 
 // Each the flip of one from `from` on.
-pub(crate) fn flips<V: Grade>(from: usize, chart: &mut [V], first: usize, count: usize)
-    requires below { ⌜ from + count ≤ first ⌝ }
-    requires room { ⌜ first + count ≤ length (now chart) ⌝ }
-    ensures { λ _. ⌜ Swept first 0 count (λ s d. V·Grade .ops .flip (getD (now (chart .entry)) (from + s) d)) (now (chart .entry)) (now (chart .exit)) ⌝ }
+pub(crate) fn flips<V: Grade>(from: usize, to: Stretch, chart: &mut [V])
+    requires below { ⌜ from + to .count ≤ to .first ⌝ }
+    requires room { ⌜ to .first + to .count ≤ length (now chart) ⌝ }
+    ensures { λ _. ⌜ Swept (to .first) 0 (to .count) (λ s d. V·Grade .ops .flip (getD (now (chart .entry)) (from + s) d)) (now (chart .entry)) (now (chart .exit)) ⌝ }
 {
-    for s in 0..count {
+    for s in 0..to.count as usize {
         let there = chart[from + s];
-        chart[first + s] = there.flip();
+        chart[to.first + s] = there.flip();
     }
 }
 
 // Each from one that stands from `left` on and one from `right` on.
-pub(crate) fn pair<V: Grade>(
-    fold: Fold,
-    left: usize,
-    right: usize,
-    chart: &mut [V],
-    first: usize,
-    count: usize,
-)
-    requires left { ⌜ left + count ≤ first ⌝ }
-    requires right { ⌜ right + count ≤ first ⌝ }
-    requires room { ⌜ first + count ≤ length (now chart) ⌝ }
-    ensures { λ _. ⌜ Swept first 0 count (λ s d. combined (V·Grade .ops) fold (getD (now (chart .entry)) (left + s) d) (getD (now (chart .entry)) (right + s) d)) (now (chart .entry)) (now (chart .exit)) ⌝ }
+pub(crate) fn pair<V: Grade>(fold: Fold, left: usize, right: usize, to: Stretch, chart: &mut [V])
+    requires left { ⌜ left + to .count ≤ to .first ⌝ }
+    requires right { ⌜ right + to .count ≤ to .first ⌝ }
+    requires room { ⌜ to .first + to .count ≤ length (now chart) ⌝ }
+    ensures { λ _. ⌜ Swept (to .first) 0 (to .count) (λ s d. combined (V·Grade .ops) fold (getD (now (chart .entry)) (left + s) d) (getD (now (chart .entry)) (right + s) d)) (now (chart .entry)) (now (chart .exit)) ⌝ }
 {
-    for s in 0..count {
+    for s in 0..to.count as usize {
         let one = chart[left + s];
         let other = chart[right + s];
-        chart[first + s] = fold.combine(one, other);
+        chart[to.first + s] = fold.combine(one, other);
     }
 }

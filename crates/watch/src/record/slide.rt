@@ -13,7 +13,8 @@ ghost use Rattle.watch.specs.Sources.{single-of, Readable};
 ghost use Rattle.watch.specs.Windows.{combined, over, reach, Swept};
 use crate::record::Watch;
 use crate::sweep::Source;
-use crate::sweep::Sweep;
+use crate::sweep::Stretch;
+use crate::window::Fold;
 use crate::window::cell;
 use crate::window::fill;
 use crate::window::put;
@@ -48,68 +49,96 @@ impl Watch {
     }
 
     // The fold of the values past the last start, up to the end of its block.
-    fn last_tail<G: Grade>(&self, log: &[G], chart: &[Span<G>], sweep: Sweep) -> Span<G>
-        requires some { ⌜ 1 ≤ sweep .width ⌝ }
-        requires source { ⌜ Readable (progress-of (now self)) (now log) (length (now chart)) (sweep .source) (sweep .count + sweep .width - 1) ⌝ }
-        ensures { λ r. ⌜ r ≡ over (spans (G·Grade .ops)) (sweep .fold) (single-of (G·Grade .ops) (progress-of (now (self .entry))) (now (log .entry)) (now (chart .entry)) (sweep .source)) (sweep .count) (reach (sweep .count + sweep .width - 1) (sweep .width) (sweep .count)) ⌝ }
+    fn last_tail<G: Grade>(
+        &self,
+        log: &[G],
+        chart: &[Span<G>],
+        fold: Fold,
+        source: Source,
+        width: u16,
+        count: u16,
+    ) -> Span<G>
+        requires some { ⌜ 1 ≤ width ⌝ }
+        requires source { ⌜ Readable (progress-of (now self)) (now log) (length (now chart)) source (count + width - 1) ⌝ }
+        ensures { λ r. ⌜ r ≡ over (spans (G·Grade .ops)) fold (single-of (G·Grade .ops) (progress-of (now (self .entry))) (now (log .entry)) (now (chart .entry)) source) count (reach (count + width - 1) width count) ⌝ }
     {
-        let count = sweep.count as usize;
-        let width = sweep.width as usize;
-        let mut tail = sweep.fold.none();
-        for t in (count..count + width - 1).rev() {
-            let value = self.single(log, chart, sweep.source, t);
-            tail = sweep
-                .fold
-                .combine(value, sweep.fold.since((t + 1) % width, tail));
+        let start = count as usize;
+        let block = width as usize;
+        let mut tail = fold.none();
+        for t in (start..start + block - 1).rev() {
+            let value = self.single(log, chart, source, t);
+            tail = fold.combine(value, fold.since((t + 1) % block, tail));
         }
         tail
     }
 
     // The rests of the blocks.
-    fn tails<G: Grade>(&self, log: &[G], sweep: Sweep, chart: &mut [Span<G>])
-        requires some { ⌜ 1 ≤ sweep .width ⌝ }
-        requires source { ⌜ Readable (progress-of (now self)) (now log) (sweep .first) (sweep .source) (sweep .count + sweep .width - 1) ⌝ }
-        requires room { ⌜ sweep .first + sweep .count ≤ length (now chart) ⌝ }
-        ensures { λ _. ⌜ Swept (sweep .first) 0 (sweep .count) (λ s _. over (spans (G·Grade .ops)) (sweep .fold) (single-of (G·Grade .ops) (progress-of (now (self .entry))) (now (log .entry)) (now (chart .entry)) (sweep .source)) s (sweep .width - s % sweep .width)) (now (chart .entry)) (now (chart .exit)) ⌝ }
+    fn tails<G: Grade>(
+        &self,
+        log: &[G],
+        fold: Fold,
+        source: Source,
+        width: u16,
+        to: Stretch,
+        chart: &mut [Span<G>],
+    )
+        requires some { ⌜ 1 ≤ width ⌝ }
+        requires source { ⌜ Readable (progress-of (now self)) (now log) (to .first) source (to .count + width - 1) ⌝ }
+        requires room { ⌜ to .first + to .count ≤ length (now chart) ⌝ }
+        ensures { λ _. ⌜ Swept (to .first) 0 (to .count) (λ s _. over (spans (G·Grade .ops)) fold (single-of (G·Grade .ops) (progress-of (now (self .entry))) (now (log .entry)) (now (chart .entry)) source) s (width - s % width)) (now (chart .entry)) (now (chart .exit)) ⌝ }
     {
-        let width = sweep.width as usize;
-        let mut tail = self.last_tail(log, chart, sweep);
-        for s in (0..sweep.count as usize).rev() {
-            let value = self.single(log, chart, sweep.source, s);
-            tail = sweep
-                .fold
-                .combine(value, sweep.fold.since((s + 1) % width, tail));
-            put(tail, chart, sweep.first + s);
+        let block = width as usize;
+        let mut tail = self.last_tail(log, chart, fold, source, width, to.count);
+        for s in (0..to.count as usize).rev() {
+            let value = self.single(log, chart, source, s);
+            tail = fold.combine(value, fold.since((s + 1) % block, tail));
+            put(tail, chart, to.first + s);
         }
     }
 
     // To each cell, the beginning of the next block.
-    fn heads<G: Grade>(&self, log: &[G], sweep: Sweep, chart: &mut [Span<G>])
-        requires some { ⌜ 1 ≤ sweep .width ⌝ }
-        requires source { ⌜ Readable (progress-of (now self)) (now log) (sweep .first) (sweep .source) (sweep .count + sweep .width - 1) ⌝ }
-        requires room { ⌜ sweep .first + sweep .count ≤ length (now chart) ⌝ }
-        ensures { λ _. ⌜ Swept (sweep .first) 0 (sweep .count) (λ s d. combined (spans (G·Grade .ops)) (sweep .fold) (getD (now (chart .entry)) (sweep .first + s) d) (over (spans (G·Grade .ops)) (sweep .fold) (single-of (G·Grade .ops) (progress-of (now (self .entry))) (now (log .entry)) (now (chart .entry)) (sweep .source)) (s + sweep .width - s % sweep .width) (s % sweep .width))) (now (chart .entry)) (now (chart .exit)) ⌝ }
+    fn heads<G: Grade>(
+        &self,
+        log: &[G],
+        fold: Fold,
+        source: Source,
+        width: u16,
+        to: Stretch,
+        chart: &mut [Span<G>],
+    )
+        requires some { ⌜ 1 ≤ width ⌝ }
+        requires source { ⌜ Readable (progress-of (now self)) (now log) (to .first) source (to .count + width - 1) ⌝ }
+        requires room { ⌜ to .first + to .count ≤ length (now chart) ⌝ }
+        ensures { λ _. ⌜ Swept (to .first) 0 (to .count) (λ s d. combined (spans (G·Grade .ops)) fold (getD (now (chart .entry)) (to .first + s) d) (over (spans (G·Grade .ops)) fold (single-of (G·Grade .ops) (progress-of (now (self .entry))) (now (log .entry)) (now (chart .entry)) source) (s + width - s % width) (s % width))) (now (chart .entry)) (now (chart .exit)) ⌝ }
     {
-        let width = sweep.width as usize;
-        let mut head = sweep.fold.none();
-        for s in 0..sweep.count as usize {
-            let value = self.single(log, chart, sweep.source, s + width - 1);
-            head = sweep.fold.since(s % width, sweep.fold.combine(head, value));
-            let here = cell(chart, sweep.first + s);
-            put(sweep.fold.combine(here, head), chart, sweep.first + s);
+        let block = width as usize;
+        let mut head = fold.none();
+        for s in 0..to.count as usize {
+            let value = self.single(log, chart, source, s + block - 1);
+            head = fold.since(s % block, fold.combine(head, value));
+            let here = cell(chart, to.first + s);
+            put(fold.combine(here, head), chart, to.first + s);
         }
     }
 
-    pub(super) fn slide<G: Grade>(&self, log: &[G], sweep: Sweep, chart: &mut [Span<G>])
-        requires source { ⌜ Readable (progress-of (now self)) (now log) (sweep .first) (sweep .source) (sweep .count + sweep .width - 1) ⌝ }
-        requires room { ⌜ sweep .first + sweep .count ≤ length (now chart) ⌝ }
-        ensures { λ _. ⌜ Swept (sweep .first) 0 (sweep .count) (λ s _. over (spans (G·Grade .ops)) (sweep .fold) (single-of (G·Grade .ops) (progress-of (now (self .entry))) (now (log .entry)) (now (chart .entry)) (sweep .source)) s (sweep .width)) (now (chart .entry)) (now (chart .exit)) ⌝ }
+    pub(super) fn slide<G: Grade>(
+        &self,
+        log: &[G],
+        fold: Fold,
+        source: Source,
+        width: u16,
+        to: Stretch,
+        chart: &mut [Span<G>],
+    )
+        requires source { ⌜ Readable (progress-of (now self)) (now log) (to .first) source (to .count + width - 1) ⌝ }
+        requires room { ⌜ to .first + to .count ≤ length (now chart) ⌝ }
+        ensures { λ _. ⌜ Swept (to .first) 0 (to .count) (λ s _. over (spans (G·Grade .ops)) fold (single-of (G·Grade .ops) (progress-of (now (self .entry))) (now (log .entry)) (now (chart .entry)) source) s width) (now (chart .entry)) (now (chart .exit)) ⌝ }
     {
-        if sweep.width == 0 {
-            fill(sweep.fold.none(), chart, sweep.first, sweep.count as usize);
+        if width == 0 {
+            fill(fold.none(), to, chart);
         } else {
-            self.tails(log, sweep, chart);
-            self.heads(log, sweep, chart);
+            self.tails(log, fold, source, width, to, chart);
+            self.heads(log, fold, source, width, to, chart);
         }
     }
 }

@@ -15,4 +15,4 @@ loop-s-again g c =
     so
 
 pub returns : need.returns
-returns g c = subst (λ n. Swept (c .args .first) 0 n (λ _ _. c .args .value) (c .args .chart .now) (c .loop-s .chart)) (omega arith) (c .loop-s .inv)
+returns g c = subst (λ n. Swept (c .args .to .first) 0 n (λ _ _. c .args .value) (c .args .chart .now) (c .loop-s .chart)) (omega arith) (c .loop-s .inv)

@@ -18,4 +18,4 @@ loop-s-again g c =
     so
 
 pub returns : need.returns
-returns g c = subst (λ n. Swept (c .args .first) 0 n (λ s d. g .V·Grade .ops .flip (getD (c .args .chart .now) (c .args .from + s) d)) (c .args .chart .now) (c .loop-s .chart)) (omega arith) (c .loop-s .inv)
+returns g c = subst (λ n. Swept (c .args .to .first) 0 n (λ s d. g .V·Grade .ops .flip (getD (c .args .chart .now) (c .args .from + s) d)) (c .args .chart .now) (c .loop-s .chart)) (omega arith) (c .loop-s .inv)

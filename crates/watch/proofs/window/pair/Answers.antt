@@ -22,4 +22,4 @@ loop-s-again g c =
     so
 
 pub returns : need.returns
-returns g c = subst (λ n. Swept (c .args .first) 0 n (λ s d. combined (g .V·Grade .ops) (c .args .fold) (getD (c .args .chart .now) (c .args .left + s) d) (getD (c .args .chart .now) (c .args .right + s) d)) (c .args .chart .now) (c .loop-s .chart)) (omega arith) (c .loop-s .inv)
+returns g c = subst (λ n. Swept (c .args .to .first) 0 n (λ s d. combined (g .V·Grade .ops) (c .args .fold) (getD (c .args .chart .now) (c .args .left + s) d) (getD (c .args .chart .now) (c .args .right + s) d)) (c .args .chart .now) (c .loop-s .chart)) (omega arith) (c .loop-s .inv)

@@ -9,5 +9,5 @@ use Rattle.watch.proofs.record.Watch.heads.Given as given
 
 abbrev pub Inv-loop-s : given.InvT-loop-s
 Inv-loop-s g l =
-    Head (spans (g .G·Grade .ops)) (l .sweep .fold) (single-of (g .G·Grade .ops) (progress-of (l .self)) (l .log) (l .entry .chart) (l .sweep .source)) (l .sweep .width) (l .s) (l .head)
-    × Swept (l .sweep .first) 0 (l .s) (λ s d. combined (spans (g .G·Grade .ops)) (l .sweep .fold) (getD (l .entry .chart) (l .sweep .first + s) d) (over (spans (g .G·Grade .ops)) (l .sweep .fold) (single-of (g .G·Grade .ops) (progress-of (l .self)) (l .log) (l .entry .chart) (l .sweep .source)) (s + l .sweep .width - s % l .sweep .width) (s % l .sweep .width))) (l .entry .chart) (l .chart)
+    Head (spans (g .G·Grade .ops)) (l .fold) (single-of (g .G·Grade .ops) (progress-of (l .self)) (l .log) (l .entry .chart) (l .source)) (l .width) (l .s) (l .head)
+    × Swept (l .to .first) 0 (l .s) (λ s d. combined (spans (g .G·Grade .ops)) (l .fold) (getD (l .entry .chart) (l .to .first + s) d) (over (spans (g .G·Grade .ops)) (l .fold) (single-of (g .G·Grade .ops) (progress-of (l .self)) (l .log) (l .entry .chart) (l .source)) (s + l .width - s % l .width) (s % l .width))) (l .entry .chart) (l .chart)

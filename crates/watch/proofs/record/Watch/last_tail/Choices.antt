@@ -8,5 +8,5 @@ use Rattle.watch.proofs.record.Watch.last_tail.Given as given
 
 abbrev pub Inv-loop-t : given.InvT-loop-t
 Inv-loop-t g l =
-    (l .sweep .count ≤ l .t) × (l .t ≤ l .sweep .count + l .sweep .width - 1)
-    × (l .tail ≡ over (spans (g .G·Grade .ops)) (l .sweep .fold) (single-of (g .G·Grade .ops) (progress-of (l .self)) (l .log) (l .chart) (l .sweep .source)) (l .t) (reach (l .sweep .count + l .sweep .width - 1) (l .sweep .width) (l .t)))
+    (l .start ≤ l .t) × (l .t ≤ l .start + l .width - 1)
+    × (l .tail ≡ over (spans (g .G·Grade .ops)) (l .fold) (single-of (g .G·Grade .ops) (progress-of (l .self)) (l .log) (l .chart) (l .source)) (l .t) (reach (l .start + l .width - 1) (l .width) (l .t)))
