@@ -84,7 +84,9 @@ mod tests {
                 .feed(&mut log, &[Margin::new(5), Margin::new(3), Margin::new(-2)])
                 .is_ok(),
         )?;
-        let mark = watch.mark(&log, &mut chart).ok().ok_or("refused")?;
+        let Ok(mark) = watch.mark(&log, &mut chart) else {
+            return check(false);
+        };
         check_eq(mark.span.low.value(), 3)?;
         check_eq(mark.span.high.value(), 3)?;
         check(mark.settled)
@@ -102,7 +104,9 @@ mod tests {
         let mut log = [false; 4];
         let mut chart = [Span::<bool>::unknown(); 6];
         check(watch.feed(&mut log, &[true, true, true, false]).is_ok())?;
-        let mark = settle(&watch, &log, &mut chart).ok().ok_or("refused")?;
+        let Ok(mark) = settle(&watch, &log, &mut chart) else {
+            return check(false);
+        };
         check(mark.settled && !mark.span.high)
     }
 }

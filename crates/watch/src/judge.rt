@@ -25,11 +25,11 @@ pub fn judge<T: Translation>(
 }
 
 // The mark of a take of yes and no, which on a complete take is its verdict.
-pub fn settle(watch: &Watch, log: &[bool], chart: &mut [Span<bool>]) -> Result<Mark<bool>, Refusal>
-    ensures mark { λ r. ⌜ Marked yes-no (progress-of (now (watch .entry))) (now (log .entry)) (now (chart .entry)) (now (chart .exit)) r ⌝ }
+pub fn settle(watch: &Watch, log: &[bool], cells: &mut [Span<bool>]) -> Result<Mark<bool>, Refusal>
+    ensures mark { λ r. ⌜ Marked yes-no (progress-of (now (watch .entry))) (now (log .entry)) (now (cells .entry)) (now (cells .exit)) r ⌝ }
     ensures published { λ r. ⌜ Settles (progress-of (now (watch .entry))) (now (log .entry)) r ⌝ }
 {
-    watch.mark(log, chart)
+    watch.mark(log, cells)
 }
 
 // A life that was played: that there is one, and what is promised of it.
