@@ -1,8 +1,10 @@
 // Feeding a watch.
 ghost use mathlib.Core.Path.{_≡_};
+ghost use mathlib.Core.Bool.{true};
 ghost use mathlib.Core.List.{_++_};
 ghost use Prim.Native.Nat.{_+_, _≤_};
 ghost use lib.ListN.{length, take, drop};
+ghost use Rattle.std.specs.Results.{isErr};
 ghost use Rattle.watch.specs.Feeding.{progress-of, feed-answer, accepted-by, advanced, logged};
 use crate::record::Watch;
 use grade::Grade;
@@ -41,7 +43,9 @@ impl Watch {
     pub fn feed<G: Grade>(&mut self, log: &mut [G], strip: &[G]) -> Result<usize, Refusal>
         ensures answer { λ r. ⌜ r ≡ feed-answer (progress-of (now (self .entry))) (length (now (log .entry))) (length (now (strip .entry))) ⌝ }
         ensures watch { λ r. ⌜ progress-of (now (self .exit)) ≡ advanced (progress-of (now (self .entry))) (accepted-by r) ⌝ }
+        ensures sheet { λ _. ⌜ now (self .exit) .sheet ≡ now (self .entry) .sheet ⌝ }
         ensures log { λ r. ⌜ now (log .exit) ≡ logged (progress-of (now (self .entry))) (accepted-by r) (now (strip .entry)) (now (log .entry)) ⌝ }
+        ensures unchanged { λ r. ⌜ (isErr r ≡ true → (now (self .exit) ≡ now (self .entry)) × (now (log .exit) ≡ now (log .entry))) ⌝ }
     {
         let taken = self.granted(log.len(), strip.len())?;
         let facts = self.sheet.facts() as usize;

@@ -8,7 +8,8 @@ use sheet::record::Sheet;
 impl Watch {
     // A watch of this sheet that has accepted no frame.
     pub fn start(sheet: &Sheet) -> Watch
-        ensures { λ r. ⌜ progress-of r ≡ begun (sheet-of (now (sheet .entry))) ⌝ }
+        ensures begun { λ r. ⌜ progress-of r ≡ begun (sheet-of (now (sheet .entry))) ⌝ }
+        ensures copy { λ r. ⌜ r .sheet ≡ now (sheet .entry) ⌝ }
     {
         Watch {
             sheet: *sheet,

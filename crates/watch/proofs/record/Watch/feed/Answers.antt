@@ -1,4 +1,4 @@
-use mathlib.Core.Path.{_≡_, sym, ap, _∙_}
+use mathlib.Core.Path.{_≡_, refl, sym, ap, _∙_}
 use Prim.Native.Nat.{_+_, _*_, _≤_}
 use native.Mathlib.Omega.{arith}
 use lib.ListN.{length}
@@ -16,6 +16,8 @@ returns-in-Break-taken g c =
     record {
       answer = p .1 ∙ ap Err (p .2) ∙ c .in-Break-taken .ensures tt;
       watch = sym (ap (advanced now) none ∙ advanced-none now);
+      sheet = refl;
+      unchanged = λ _. (refl, refl);
       log = sym (ap (λ n. logged now n (c .args .strip .now) (c .args .log .now)) none ∙ logged-none now (c .args .strip .now) (c .args .log .now));
     }
 
