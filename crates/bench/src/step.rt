@@ -44,6 +44,7 @@ mod tests {
     use grade::Margin;
     use grade::MarginGrade;
     use grade::Span;
+    use grade::Voices;
     use grade::YesNoGrade;
     use sheet::record::Sheet;
     use std::mem::size_of;
@@ -54,8 +55,11 @@ mod tests {
     const WINDOW: [u8; 10] = [1, 2, 1, 7, 1, 0, 0, 0, 3, 0];
 
     #[test]
-    fn the_watch_is_small() -> Result<(), Fail> {
-        check(size_of::<Watch>() < 600)
+    fn the_memory_is_small() -> Result<(), Fail> {
+        check(size_of::<Watch>() < 600)?;
+        check_eq(size_of::<Span<bool>>(), 2)?;
+        check_eq(size_of::<Span<Voices>>(), 4)?;
+        check_eq(size_of::<Span<Margin>>(), 8)
     }
 
     #[test]
