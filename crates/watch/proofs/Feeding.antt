@@ -24,10 +24,11 @@ logged-none p strip log =
     ∙ ap (λ n. take (p .count * p .sheet .facts) log ++ drop (n * p .sheet .facts) log) (add-zero (p .count))
     ∙ take-append-drop (p .count * p .sheet .facts) log
 
-choice : (x y z : Bool) (m n : ℕ) → cond x (Err ShortLog) (cond y (cond z (Err TakeComplete) (Ok m)) (Err BrokenStrip)) ≡ Ok n → (x ≡ false) × (m ≡ n)
+-- what the three tests of a granted feed said
+pub choice : (x y z : Bool) (m n : ℕ) → Ok n ≡ cond x (Err ShortLog) (cond y (cond z (Err TakeComplete) (Ok m)) (Err BrokenStrip)) → (x ≡ false) × (y ≡ true) × (n ≡ m)
 choice true y z m n h = absurd (let e : _≡_ {A = ℕ} 0 1 = cc in omega arith)
 choice false true true m n h = absurd (let e : _≡_ {A = ℕ} 0 1 = cc in omega arith)
-choice false true false m n h = (refl, cc)
+choice false true false m n h = (refl, refl, cc)
 choice false false z m n h = absurd (let e : _≡_ {A = ℕ} 0 1 = cc in omega arith)
 
 -- the accepted frames fit the take, the log and the strip
@@ -39,10 +40,10 @@ pub record Fits (p : Progress) (log strip n : ℕ) : Type 0 where
 pub granted-fits : (p : Progress) (log strip n : ℕ) → p .count ≤ take-length (p .sheet) → feed-answer p log strip ≡ Ok n → Fits p log strip n
 granted-fits p log strip n within h =
     let facts = p .sheet .facts in
-    let said = choice (ltb log (facts * take-length (p .sheet))) (eqb (strip % facts) 0) (leb (take-length (p .sheet)) (p .count) && ltb 0 strip) (min (strip / facts) (take-length (p .sheet) - p .count)) n h in
+    let said = choice (ltb log (facts * take-length (p .sheet))) (eqb (strip % facts) 0) (leb (take-length (p .sheet)) (p .count) && ltb 0 strip) (min (strip / facts) (take-length (p .sheet) - p .count)) n (sym h) in
     let long = ltb-false log (facts * take-length (p .sheet)) (said .0) in
-    let whole : p .count + n ≤ take-length (p .sheet) = omega (arith, said .1) in
-    let less : n ≤ strip / facts = omega (arith, said .1) in
+    let whole : p .count + n ≤ take-length (p .sheet) = omega (arith, said .2) in
+    let less : n ≤ strip / facts = omega (arith, said .2) in
     record {
       whole = whole;
       room = omega (arith, add-mul (p .count) n facts, mul-le-mul-right facts whole, mul-comm (take-length (p .sheet)) facts, long);

@@ -18,13 +18,7 @@ use Rattle.grade.specs.Lattice.{Lattice}
 use Rattle.sheet.specs.Rules.{Written}
 use Rattle.watch.specs.Feeding.{Progress, progress, take-length, feed-answer, accepted-by, advanced, logged}
 use Rattle.watch.specs.Life.{Event, fed, marked, Life, begins, feeds, marks, take-size, accepted}
-use Rattle.watch.proofs.Feeding.{Fits, granted-fits, logged-none}
-
-choice : (x y z : Bool) (m n : ℕ) → Ok n ≡ cond x (Err ShortLog) (cond y (cond z (Err TakeComplete) (Ok m)) (Err BrokenStrip)) → (x ≡ false) × (y ≡ true) × (n ≡ m)
-choice true y z m n h = absurd (let e : _≡_ {A = ℕ} 0 1 = cc in omega arith)
-choice false true true m n h = absurd (let e : _≡_ {A = ℕ} 0 1 = cc in omega arith)
-choice false true false m n h = (refl, refl, cc)
-choice false false z m n h = absurd (let e : _≡_ {A = ℕ} 0 1 = cc in omega arith)
+use Rattle.watch.proofs.Feeding.{choice, Fits, granted-fits, logged-none}
 
 module _ {V : Type 0} (w : Written) (some : 1 ≤ w .facts) where
   -- The watch counts the accepted frames, and its log begins with them.
