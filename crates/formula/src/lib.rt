@@ -1,5 +1,6 @@
 // Formulas: rules as trees, their grades, and what is true of them in every lattice of grades.
 // The trees are definitions that nothing runs; each function below promises one law of them.
+#![tactic(auto)]
 ghost use Rattle.formula.specs.Laws.{PublishedMeaning, Local, Enclosure, Narrowing, EndsReached, CarriesGrades};
 ghost use Rattle.formula.specs.Neighbours.{NeighboursDiffer};
 
@@ -49,7 +50,7 @@ pub fn reaches_both_ends<G: Grade>() -> u8
 
 // Every translation carries the grade, of values and of spans.
 pub fn translations_carry<T: Translation>() -> u8
-    ensures { (t : T) → CarriesGrades From-as-Grade.ops To-as-Grade.ops (map t) }
+    ensures { (t : T) → CarriesGrades T.From.Grade.ops T.To.Grade.ops (T.map t) }
 {
     0
 }

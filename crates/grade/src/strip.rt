@@ -6,9 +6,9 @@ use crate::translation::Translation;
 use refusal::Refusal;
 
 pub fn carry<T: Translation>(t: &T, from: &[T::From], to: &mut [T::To]) -> Result<(), Refusal>
-    ensures whole { Carried (map t.now) from.now to.old to.new result }
+    ensures whole { Carried (T.map t.now) from.now to.old to.new result }
     ensures answer { result ≡ carried_answer (length from.now) (length to.old) }
-    ensures strip { to.new ≡ carried (map t.now) from.now to.old }
+    ensures strip { to.new ≡ carried (T.map t.now) from.now to.old }
 {
     if from.len() != to.len() {
         return Err(Refusal::UnequalStrips);

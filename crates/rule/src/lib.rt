@@ -1,5 +1,6 @@
 // What the rule of a sheet means: its rows as a formula, and what is true of its grade.
 // The formulas are definitions that nothing runs; each function below promises one law of the rules of sheets.
+#![tactic(auto)]
 ghost use Rattle.rule.specs.Laws.{RowsAreFormulas, PublishedRule, RuleEnclosed, RuleNarrows, EndsCanCome, RuleCarried};
 
 use grade::{Grade, Translation};
@@ -41,7 +42,7 @@ pub fn reaches_ends<G: Grade>() -> u8
 
 // Every translation carries the grade of a rule, and what is known of it.
 pub fn translations_carry<T: Translation>() -> u8
-    ensures { (t : T) → RuleCarried From-as-Grade.ops To-as-Grade.ops (map t) }
+    ensures { (t : T) → RuleCarried T.From.Grade.ops T.To.Grade.ops (T.map t) }
 {
     0
 }

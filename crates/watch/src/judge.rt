@@ -18,7 +18,7 @@ pub fn judge<T: Translation>(
     chart: &mut [Span<T::From>],
 ) -> Result<Mark<T::From>, Refusal>
     ensures mark { Marked T.From.Grade.ops (progress_of watch.now) log.now chart.old chart.new result }
-    ensures whole_life { (t : T) → Lived T.From.Grade.ops To-as-Grade.ops (map t) (progress_of watch.now) log.now (marked chart.old result) }
+    ensures whole_life { (t : T) → Lived T.From.Grade.ops T.To.Grade.ops (T.map t) (progress_of watch.now) log.now (marked chart.old result) }
 {
     watch.mark(log, chart)
 }

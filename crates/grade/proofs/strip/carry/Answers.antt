@@ -12,6 +12,7 @@ pub returns : goal.returns
 returns g c =
     let arrived = all _ c.args.from.now c.loop-i.to c.loop-i.i c.loop-i-test.false (omega arith) c.loop-i.invariant in
     let same = eq-eqb _ _ c.if-from-to.false in record {
+      whole = rw same (refl, arrived);
       answer = rw same refl;
       strip = rw same arrived;
     }
