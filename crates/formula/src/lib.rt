@@ -22,28 +22,28 @@ pub fn neighbours_differ() -> u8
 
 // A grade rests on the frames up to the horizon alone.
 pub fn looks_no_further<G: Grade>() -> u8
-    ensures { Local ops }
+    ensures { Local G.Grade.ops }
 {
     0
 }
 
 // Grades worked in spans enclose the grade, nest, and settle.
 pub fn encloses<G: Grade>() -> u8
-    ensures { Enclosure ops }
+    ensures { Enclosure G.Grade.ops }
 {
     0
 }
 
 // What is known of a take encloses what it may become, and narrows to the grade.
 pub fn narrows<G: Grade>() -> u8
-    ensures { Narrowing ops }
+    ensures { Narrowing G.Grade.ops }
 {
     0
 }
 
 // Where no fact is read from both sides, each end of what is known is the grade of a take.
 pub fn reaches_both_ends<G: Grade>() -> u8
-    ensures { EndsReached ops }
+    ensures { EndsReached G.Grade.ops }
 {
     0
 }

@@ -21,21 +21,21 @@ pub fn published_meaning() -> u8
 
 // What is known of a take encloses what it may become.
 pub fn encloses<G: Grade>() -> u8
-    ensures { RuleEnclosed ops }
+    ensures { RuleEnclosed G.Grade.ops }
 {
     0
 }
 
 // It narrows as frames come, and past the length of the rule it is the grade.
 pub fn narrows<G: Grade>() -> u8
-    ensures { RuleNarrows ops }
+    ensures { RuleNarrows G.Grade.ops }
 {
     0
 }
 
 // It is no wider than it must be, where no fact is read from both sides.
 pub fn reaches_ends<G: Grade>() -> u8
-    ensures { EndsCanCome ops }
+    ensures { EndsCanCome G.Grade.ops }
 {
     0
 }

@@ -10,8 +10,8 @@ few c = omega (arith, sizes_say (body_of c.args.facts c.args.count c.args.rest.n
 pub loop-k-init : goal.loop-k-init
 loop-k-init c = read_none _
 
-pub read-at-requires : goal.read-at-requires
-read-at-requires c = record { sizes = c.requires; within = c.loop-k-test.true; measured = c.loop-k.invariant.lengths }
+pub read_at-requires : goal.read_at-requires
+read_at-requires c = record { sizes = c.requires; within = c.loop-k-test.true; measured = c.loop-k.invariant.lengths }
 
 pub bounds-rows-k : goal.bounds-rows-k
 bounds-rows-k c = few (goal.at.bounds-rows-k c).In-Ok

@@ -9,8 +9,8 @@ use Rattle.sheet.proofs.sweep.first_unnamed.Goals.{then-not-named-k+then-k-count
 pub loop-k-init : goal.loop-k-init
 loop-k-init c = (omega arith, named_start _ _ c.requires.lower)
 
-pub raise-named-requires : goal.raise-named-requires
-raise-named-requires c = (omega (arith, c.requires.few, c.loop-k.invariant.0), c.requires.lower _ (omega (arith, c.loop-k.invariant.0, c.loop-k-test.true)))
+pub raise_named-requires : goal.raise_named-requires
+raise_named-requires c = (omega (arith, c.requires.few, c.loop-k.invariant.0), c.requires.lower _ (omega (arith, c.loop-k.invariant.0, c.loop-k-test.true)))
 
 pub loop-k-preserved : goal.loop-k-preserved
 loop-k-preserved c =
@@ -19,8 +19,8 @@ loop-k-preserved c =
     let up : c.loop-k.k ≡ suc i = omega (arith, c.loop-k-test.true) in
     let within : i < c.args.count = omega (arith, c.loop-k.invariant.0, c.loop-k-test.true) in
     let before = subst (λ k. NamedSweep row c.args.count k c.loop-k.named c.loop-k.found) up c.loop-k.invariant.1 in
-    let After : Option ℕ → Type 0 = λ o. NamedSweep row c.args.count i c.raise-named.new.flags o in
-    let raised = c.raise-named.ensures in (
+    let After : Option ℕ → Type 0 = λ o. NamedSweep row c.args.count i c.raise_named.new.flags o in
+    let raised = c.raise_named.ensures in (
       omega (arith, c.loop-k.invariant.0),
       elim c.if-not-named-k.branch [
         | then-not-named-k+then-k-count w ↦ subst After (sym w.found-is) (named_missing row _ c.requires.lower i within _ _ before _ raised w.if-not-named-k.true w.if-k-count.true)

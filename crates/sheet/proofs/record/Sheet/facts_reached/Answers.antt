@@ -6,14 +6,14 @@ use Rattle.sheet.proofs.record.Sheet.facts_reached.Goals as goal
 pub loop-k-init : goal.loop-k-init
 loop-k-init c = swept_start c.args.self.now
 
-pub hand-on-requires : goal.hand-on-requires
-hand-on-requires c =
+pub hand_on-requires : goal.hand_on-requires
+hand_on-requires c =
     let s = c.args.self.now in
     let within : c.loop-k.k - 1 < s.count = omega (arith, c.loop-k.auto.k, c.loop-k-test.true) in
     record { place = omega (arith, s.few_rows); rows = read_lower s _ within; facts = read_few s _ within }
 
-pub hand-on-requires-in-loop-k : goal.hand-on-requires-in-loop-k
-hand-on-requires-in-loop-k c =
+pub hand_on-requires-in-loop-k : goal.hand_on-requires-in-loop-k
+hand_on-requires-in-loop-k c =
     let s = c.args.self.now in
     let within : c.loop-k.k - 1 < s.count = omega (arith, c.loop-k.auto.k, c.loop-k-test.true) in
     record { place = omega (arith, s.few_rows); rows = read_lower s _ within; facts = read_few s _ within }
@@ -27,8 +27,8 @@ loop-k-preserved c =
     let same = sym (row_is_read s i within) in
     let before = subst (λ k. Swept s k c.loop-k.plain c.loop-k.turned) up c.loop-k.invariant in
     swept_more s i within _ _ _ _ _ _ before
-    (subst (λ r. HandedOn r (get_or c.loop-k.plain.rows i false) c.loop-k.plain c.loop-k.turned c.hand-on.new.same c.hand-on.new.other) same c.hand-on.ensures)
-    (subst (λ r. HandedOn r (get_or c.hand-on.new.other.rows i false) c.hand-on.new.other c.hand-on.new.same c.hand-on-in-loop-k.new.same c.hand-on-in-loop-k.new.other) same c.hand-on-in-loop-k.ensures)
+    (subst (λ r. HandedOn r (get_or c.loop-k.plain.rows i false) c.loop-k.plain c.loop-k.turned c.hand_on.new.same c.hand_on.new.other) same c.hand_on.ensures)
+    (subst (λ r. HandedOn r (get_or c.hand_on.new.other.rows i false) c.hand_on.new.other c.hand_on.new.same c.hand_on-in-loop-k.new.same c.hand_on-in-loop-k.new.other) same c.hand_on-in-loop-k.ensures)
 
 pub returns : goal.returns
 returns c = swept_done c.args.self.now c.loop-k.k c.loop-k.plain c.loop-k.turned c.loop-k-test.false c.loop-k.invariant

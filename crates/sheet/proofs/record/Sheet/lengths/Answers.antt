@@ -9,5 +9,5 @@ returns c =
     let long = ap (λ n. length (take n s.lengths)) whole ∙ length-take-le s.count s.lengths (omega arith) in
     record {
       count = long ∙ sym (length-take-le s.count s.rows (omega arith));
-      each = λ k h. let less : k < s.count = omega (arith, long) in ap (λ n. get_or (take n s.lengths) k 0) whole ∙ get_or-take s.count s.lengths k 0 less ∙ s.decreases k less;
+      each = λ k h. let less : k < s.count = omega (arith, long) in ap (λ n. get_or (take n s.lengths) k 0) whole ∙ get_or-take s.count s.lengths k 0 less ∙ s.measured k less;
     }

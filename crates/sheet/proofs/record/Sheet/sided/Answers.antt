@@ -13,5 +13,5 @@ loop-fact-preserved c =
 
 pub returns : goal.returns
 returns c =
-    let reached = c.facts-reached.ensures in
+    let reached = c.facts_reached.ensures in
     (λ _ fact plain turned. c.loop-fact.invariant fact (omega (arith, c.loop-fact-test.false, reached.few fact _ plain)) ((reached.is_plain fact).1 plain) ((reached.is_turned fact).1 turned), λ _. refl)
