@@ -13,7 +13,8 @@ use Rattle.formula.proofs.Known.{narrowing}
 use Rattle.formula.proofs.Reached.{reached}
 use Rattle.formula.proofs.Carried.{translations_carry}
 use Rattle.sheet.specs.Rules.{row_at}
-use Rattle.rule.specs.Meaning.{rule_of, formula_at, RowMet, row_grade, rule_row, translated}
+use Rattle.rule.specs.Trees.{rule_of}
+use Rattle.rule.specs.Meaning.{formula_at, RowMet, row_grade, rule_row, translated}
 use Rattle.rule.specs.Laws.{RowsAreFormulas, PublishedRule, RuleEnclosed, RuleNarrows, EndsCanCome, RuleCarried}
 use Rattle.rule.proofs.Trees.{tree_step, horizon_length, kept_lower, rule_horizon}
 use Rattle.rule.proofs.Standing.{row_proper, inner_proper, rule_proper}

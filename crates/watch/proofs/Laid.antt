@@ -15,7 +15,8 @@ use Rattle.formula.proofs.Related.{related}
 use Rattle.sheet.specs.Rules.{Written, row_at, Keeps}
 use Rattle.sheet.proofs.Reading.{range_facts}
 use Rattle.sheet.proofs.Sides.{fact_under}
-use Rattle.rule.specs.Meaning.{rule_of, rule_row, rule_grade}
+use Rattle.rule.specs.Trees.{rule_of}
+use Rattle.rule.specs.Meaning.{rule_row, rule_grade}
 use Rattle.rule.proofs.Sides.{sheet_reaches}
 use Rattle.rule.proofs.Trees.{rule_horizon, kept_lower}
 use Rattle.watch.specs.Feeding.{take_length}
