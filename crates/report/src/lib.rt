@@ -1,5 +1,6 @@
 // The two texts of fixed form, written into a lent place.
 #![tactic(auto)]
+
 ghost use Rattle.std.specs.Prelude.{◌≡◌, ◌<◌, ◌≤◌, length};
 ghost use Rattle.report.specs.Places.{WrittenInto, OneOutcome};
 ghost use Rattle.report.specs.Texts.{digit, two_digits, three_digits, two_hex, four_hex, state_text, notice_text, line_text};

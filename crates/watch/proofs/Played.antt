@@ -1,6 +1,6 @@
 -- The played life is a life, and what the promise says of it.
 use Rattle.std.proofs.Common.{ℕ, List, [], ◌∷◌, Ok, Err, refl, arith}
-use Rattle.refusal.specs.declared.Refusal.TheVariants.{TakeComplete, ShortChart}
+use Rattle.refusal.specs.declared.Refusal.TheVariants.{TakeComplete}
 use Rattle.grade.specs.Voices.{word, voices}
 use Rattle.grade.specs.declared.voices.Voices.{Voices}
 use Rattle.grade.specs.VoicesLaws.{voices_lawful}
@@ -29,9 +29,8 @@ played_life =
     let one = marked_at 1 3 8 8 8 (feeds (begins (log_of 8 8 8 8)) (word 3 ∷ []) (Ok 1) refl) in
     let two = marked_at 2 3 1 8 8 (feeds one (word 1 ∷ []) (Ok 1) refl) in
     let three = marked_at 3 3 1 6 8 (feeds two (word 6 ∷ []) (Ok 1) refl) in
-    let without = marks three [] [] (Err ShortChart) (refl, refl) in
-    let four = marked_at 4 3 1 6 6 (feeds without (word 6 ∷ []) (Ok 1) refl) in
-    let last = marked_at 4 3 1 6 6 (feeds four (word 9 ∷ []) (Err TakeComplete) refl) in
+    let four = marked_at 4 3 1 6 6 (feeds three (word 6 ∷ []) (Ok 1) refl) in
+    let last = feeds four (word 9 ∷ []) (Err TakeComplete) refl in
     record {
       lived = last;
       frames = refl;

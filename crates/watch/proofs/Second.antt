@@ -7,7 +7,7 @@ use Rattle.refusal.specs.declared.Refusal.TheVariants.{ShortLog, BrokenStrip, Ta
 use Rattle.grade.specs.Lattice.{Lattice}
 use Rattle.sheet.specs.Rules.{Written}
 use Rattle.watch.specs.Feeding.{progress, take_length, feed_answer}
-use Rattle.watch.specs.Life.{Event, Life, begins, feeds, marks, take_size, accepted, Feeds, joined_back, refusals}
+use Rattle.watch.specs.Life.{Event, Life, begins, feeds, marks, take_size, accepted, Feeds, joined_back, NoneRefused}
 use Rattle.watch.proofs.Frames.{in_step, size_kept}
 
 no_refusal : (x y z : Bool) (m : ℕ) (r : Refusal) → x ≡ false → y ≡ true → z ≡ false → Err r ≡ cond x (Err ShortLog) (cond y (cond z (Err TakeComplete) (Ok m)) (Err BrokenStrip)) → ⊥
@@ -27,8 +27,8 @@ module _ {V : Type 0} (l : Lattice V) (w : Written) (some : 1 ≤ w.facts) where
 
   -- the strips that were fed, as far as they go, are what was accepted
   pub all_accepted : {es : List (Event V)} {n : ℕ} {log : List V} → Life l w es n log → (strips : List (List V)) → Feeds w es strips → take_size w ≤ length log → length (joined_back strips) ≤ take_size w
-      → (refusals es ≡ []) × (accepted w es ≡ joined_back strips)
-  all_accepted (begins first) [] f long fits = (refl, refl)
+      → NoneRefused es × (accepted w es ≡ joined_back strips)
+  all_accepted (begins first) [] f long fits = (tt, refl)
   all_accepted (begins first) (s ∷ ss) f long fits = absurd f
   all_accepted (feeds life strip (Ok m) h) [] f long fits = absurd f
   all_accepted (feeds {es = es} {n = c} {log = before} life strip (Ok m) h) (s ∷ ss) f long fits =

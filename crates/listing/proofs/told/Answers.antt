@@ -5,10 +5,10 @@ use Rattle.listing.specs.Words.{Tells}
 use Rattle.listing.proofs.Notices.{small_row, small_number, just_noticed}
 use Rattle.listing.proofs.told.Goals as goal
 
-pub returns-in-ok-text : goal.returns-in-ok-text
-returns-in-ok-text c =
-    subst (λ v. IfOk c.from-slice.result (λ x. Tells v (vec_items x))) c.in-Ok.ensures.outcome
-    (IfOk-weaker c.from-slice.result _ _ (λ v e. (c.sided.result, c.sided.ensures, e.0 ∙ c.as-bytes.ensures.value ∙ c.in-ok-text.ensures)) c.from-slice.ensures.made)
+pub returns-in_ok-text : goal.returns-in_ok-text
+returns-in_ok-text c =
+    subst (λ v. IfOk c.from_slice.result (λ x. Tells v (vec_items x))) c.in-Ok.ensures.outcome
+    (IfOk-weaker c.from_slice.result _ _ (λ v e. (c.sided.result, c.sided.ensures, e.0 ∙ c.as_bytes.ensures.value ∙ c.in_ok-text.ensures)) c.from_slice.ensures.made)
 
 pub returns-in-Err : goal.returns-in-Err
 returns-in-Err c =
@@ -18,5 +18,5 @@ returns-in-Err c =
     let low : c.number.result ≤ 99 = subst (λ n. n ≤ 99) (sym number) (small_number f.refusal) in
     let lower = small_row c.args.bytes.now f.refusal f.row ((told.refuses f).0 refl) in
     let written = just_noticed c.number.result f.row (replicate 14 0) c.notice.new.place c.notice.result refl low lower c.notice.ensures in
-    subst (λ v. IfOk c.from-slice-in-Err.result (λ x. Tells v (vec_items x))) told.outcome
-    (IfOk-weaker c.from-slice-in-Err.result _ _ (λ v e. e.0 ∙ written ∙ ap (λ n. notice_text n f.row) number) c.from-slice-in-Err.ensures.made)
+    subst (λ v. IfOk c.from_slice-in-Err.result (λ x. Tells v (vec_items x))) told.outcome
+    (IfOk-weaker c.from_slice-in-Err.result _ _ (λ v e. e.0 ∙ written ∙ ap (λ n. notice_text n f.row) number) c.from_slice-in-Err.ensures.made)

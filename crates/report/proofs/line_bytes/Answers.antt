@@ -6,9 +6,9 @@ pub returns : goal.returns
 returns c =
     record {
       text = line_made c.args.count c.args.low c.args.high _ _ _ _
-          (c.copy-from-slice.ensures.after ∙ c.three-decimal.ensures)
-          (c.copy-from-slice-2.ensures.after ∙ c.four-hexadecimal.ensures)
-          (c.copy-from-slice-3.ensures.after ∙ c.four-hexadecimal-2.ensures)
-          (c.copy-from-slice-4.ensures.after ∙ c.state.ensures);
+          (c.copy_from_slice.ensures.after ∙ c.three_decimal.ensures)
+          (c.copy_from_slice-2.ensures.after ∙ c.four_hexadecimal.ensures)
+          (c.copy_from_slice-3.ensures.after ∙ c.four_hexadecimal-2.ensures)
+          (c.copy_from_slice-4.ensures.after ∙ c.state.ensures);
       size = line_size c.args.count c.args.low c.args.high;
     }

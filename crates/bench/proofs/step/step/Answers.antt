@@ -17,16 +17,16 @@ returns c =
     let old = c.args.chart.now in
     let place = c.line.new.place in
     let answer = c.feed.ensures.answer in
-    let fed = c.in-ok-feed.ensures in
-    let whole = logged before c.in-ok-feed.field-0 frame log in
+    let fed = c.in_ok-feed.ensures in
+    let whole = logged before c.in_ok-feed.field-0 frame log in
     let grown = c.feed.new.log in
-    let marked = c.in-ok-mark.ensures.mark in
+    let marked = c.in_ok-mark.ensures.mark in
     let low = c.bits.ensures ∙ ap (λ s. s.low.bits) marked.1 in
     let high = c.bits-2.ensures ∙ ap (λ s. s.high.bits) marked.1 in
     let text = line_text c.accepted.result c.bits.result c.bits-2.result in
     let size : 19 ≤ length text = omega (arith, line_size c.accepted.result c.bits.result c.bits-2.result) in
     let line =
-    c.in-ok-line.ensures.2
+    c.in_ok-line.ensures.2
     ∙ just_filled text (replicate 19 0) (omega (arith, size))
     ∙ (λ i. line_text (c.accepted.ensures.count i) (low i) (high i)) in
     record {

@@ -8,5 +8,5 @@ pub returns : goal.returns
 returns g c = record {
   mark = c.mark.ensures;
   whole_life = λ t es life.
-      whole_life g.met.From.Grade.lawful _ (sheet_keeps c.args.watch.now.sheet) (g.met.T.Translation.carries t) (marks life _ _ _ c.mark.ensures) _ refl;
+      whole_life g.met.T.From.Grade.lawful _ (sheet_keeps c.args.watch.now.sheet) (g.met.T.Translation.carries t) (marks life _ _ _ c.mark.ensures) _ refl;
 }

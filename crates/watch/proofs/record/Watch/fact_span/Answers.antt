@@ -6,8 +6,8 @@ use Rattle.grade.specs.Spans.{exact, unknown}
 use Rattle.watch.specs.Feeding.{progress_of, take_length}
 use Rattle.watch.proofs.record.Watch.fact_span.Goals as goal
 
-pub offset-bounds-log-t : goal.offset-bounds-log-t
-offset-bounds-log-t g c =
+pub offset_bounds-log-t : goal.offset_bounds-log-t
+offset_bounds-log-t g c =
     let p = progress_of c.args.self.now in
     let facts = p.sheet.facts in
     let less : c.args.t * facts + c.args.fact < take_length p.sheet * facts = digits_lt (omega arith) c.requires.fact in

@@ -4,13 +4,13 @@ use Rattle.watch.specs.Feeding.{progress_of, accepted_by, advanced, logged}
 use Rattle.watch.proofs.Feeding.{advanced_none, logged_none, granted_fits}
 use Rattle.watch.proofs.record.Watch.feed.Goals as goal
 
-pub returns-in-err-taken : goal.returns-in-err-taken
-returns-in-err-taken g c =
-    let p = err_from_is_err_and c.from-residual.result c.from-residual.ensures.1 in
+pub returns-in_err-taken : goal.returns-in_err-taken
+returns-in_err-taken g c =
+    let p = err_from_is_err_and c.from_residual.result c.from_residual.ensures.1 in
     let now = progress_of c.args.self.now in
     let none = ap accepted_by p.1 in
     record {
-      answer = p.1 ∙ ap Err p.2 ∙ c.in-err-taken.ensures;
+      answer = p.1 ∙ ap Err p.2 ∙ c.in_err-taken.ensures;
       watch = sym (ap (advanced now) none ∙ advanced_none now);
       sheet = refl;
       unchanged = λ _. (refl, refl);
@@ -19,7 +19,7 @@ returns-in-err-taken g c =
 
 pub write-requires : goal.write-requires
 write-requires g c =
-    let fits = granted_fits (progress_of c.args.self.now) (length c.args.log.now) (length c.args.strip.now) c.in-ok-taken.taken c.args.self.now.within (sym c.in-ok-taken.ensures) in
+    let fits = granted_fits (progress_of c.args.self.now) (length c.args.log.now) (length c.args.strip.now) c.in_ok-taken.taken c.args.self.now.within (sym c.in_ok-taken.ensures) in
     let facts = c.facts-facts.ensures in
     record {
       inside = rw facts fits.room;

@@ -40,7 +40,7 @@ loop-s-preserved g c =
     let head = c.since-head.ensures ∙ ap₂ (λ n. cond (eqb n 0) (none l f)) here (c.combine.ensures ∙ ap (combined l f c.loop-s.head) value)
     ∙ head_now law f at w c.requires.some s c.loop-s.head c.loop-s.invariant.1 in
     let there : c.args.to.first + s < length c.loop-s.chart = omega (arith, so.size, c.requires.room, c.loop-s-test.true) in (
-      c.place-after-place.ensures s here,
+      c.place_after-place.ensures s here,
       head_next law f at w c.requires.some s c.since-head.result head,
       subst (Swept c.args.to.first 0 (s + 1) (λ i d. combined l f (get_or c.args.chart.now (c.args.to.first + i) d) (over l f at (i + w - i % w) (i % w))) c.args.chart.now) (sym c.put.ensures)
           (swept_up _ _ _ _ _ _ _ (omega arith) there
@@ -62,5 +62,5 @@ cell-here-requires g c = omega (arith, c.loop-s.invariant.2.size, c.requires.roo
 pub put-requires : goal.put-requires
 put-requires g c = omega (arith, c.loop-s.invariant.2.size, c.requires.room, c.loop-s-test.true)
 
-pub place-after-place-requires : goal.place-after-place-requires
-place-after-place-requires g c = rw c.loop-s.invariant.0 (mod-lt c.loop-s.s c.requires.some)
+pub place_after-place-requires : goal.place_after-place-requires
+place_after-place-requires g c = rw c.loop-s.invariant.0 (mod-lt c.loop-s.s c.requires.some)

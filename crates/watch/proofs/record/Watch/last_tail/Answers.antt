@@ -38,7 +38,7 @@ loop-t-preserved g c =
     let here : c.loop-t.place ≡ (t + 1) % c.args.width = inv.2 ∙ ap (λ n. n % c.args.width) up in (
       omega (arith, c.loop-t-test.true),
       omega (arith, inv.1),
-      c.place-before-place.ensures t here,
+      c.place_before-place.ensures t here,
       c.combine-tail.ensures ∙ ap₂ (combined l c.args.fold) c.single-value.ensures (c.since.ensures ∙ ap (λ n. cond (eqb n 0) (none l c.args.fold) c.loop-t.tail) here)
           ∙ tail_step law c.args.fold at c.args.width c.requires.some m t c.loop-t.tail (omega (arith, inv.1, up)) (inv.3 ∙ ap (λ i. over l c.args.fold at i (reach m c.args.width i)) up),
     )
@@ -49,5 +49,5 @@ returns g c =
     let down : c.loop-t.t ≡ c.args.count = omega (arith, c.loop-t.invariant.0, c.loop-t-test.false) in
     c.loop-t.invariant.3 ∙ ap (λ i. over (spans g.G.Grade.ops) c.args.fold at i (reach (c.args.count + c.args.width - 1) c.args.width i)) down
 
-pub place-before-place-requires : goal.place-before-place-requires
-place-before-place-requires g c = c.requires.some
+pub place_before-place-requires : goal.place_before-place-requires
+place_before-place-requires g c = c.requires.some

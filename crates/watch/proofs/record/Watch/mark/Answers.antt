@@ -8,8 +8,8 @@ use Rattle.watch.proofs.record.Watch.mark.Goals as goal
 pub loop-k-init : goal.loop-k-init
 loop-k-init g c = sofar_none _ _ _ _
 
-pub mark-row-requires : goal.mark-row-requires
-mark-row-requires g c =
+pub mark_row-requires : goal.mark_row-requires
+mark_row-requires g c =
     let p = progress_of c.args.self.now in
     let n_is = frames_is p _ _ c.from-frames.ensures c.length.ensures in
     let rows_is = ap length c.rows.ensures.rows in
@@ -19,7 +19,7 @@ mark-row-requires g c =
     (omega (arith, rows_is, c.loop-k-test.true)) c.loop-k.invariant
 
 pub loop-k-preserved : goal.loop-k-preserved
-loop-k-preserved g c = sofar_more _ _ _ _ _ _ _ c.loop-k.invariant c.mark-row.ensures
+loop-k-preserved g c = sofar_more _ _ _ _ _ _ _ c.loop-k.invariant c.mark_row.ensures
 
 pub returns : goal.returns
 returns g c =
@@ -33,6 +33,6 @@ returns g c =
       no_refusal p _ _ (enough_log p _ _ _ c.facts.ensures n_is c.if-log-facts.false) (enough_chart p _ _ _ _ rows_is n_is c.place.ensures c.if-chart-place.false),
       c.cell-span.ensures (spans l).bottom
           ∙ last_cell l p log _ _ c.args.chart.now c.loop-k.chart (spans l).bottom c.rows.ensures.keeps.some_row n_is (c.place-2.ensures ∙ ap (λ m. (m - 1) * (c.from-frames.result + 1) + 0) rows_is) so,
-      c.is-exact.ensures,
+      c.is_exact.ensures,
       all_charted l p log _ _ so,
     )

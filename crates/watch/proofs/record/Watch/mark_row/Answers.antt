@@ -3,8 +3,8 @@ use Rattle.sheet.specs.Rules.{row_at}
 use Rattle.watch.proofs.Charting.{table_long}
 use Rattle.watch.proofs.record.Watch.mark_row.Goals as goal
 
-pub write-row-requires : goal.write-row-requires
-write-row-requires g c =
+pub write_row-requires : goal.write_row-requires
+write_row-requires g c =
     let lens = c.lengths.ensures in
     record {
       ready = c.requires;

@@ -10,15 +10,15 @@ use Rattle.watch.proofs.Reading.{readable_one, readable_here, single_same}
 use Rattle.watch.proofs.Sweeping.{swept_none, swept_down, swept_below}
 use Rattle.watch.proofs.record.Watch.tails.Goals as goal
 
-pub last-tail-tail-requires : goal.last-tail-tail-requires
-last-tail-tail-requires g c =
+pub last_tail-tail-requires : goal.last_tail-tail-requires
+last_tail-tail-requires g c =
     record {
       some = c.requires.some;
       source = readable_here (progress_of c.args.self.now) c.args.log.now c.args.to.first _ c.args.source _ c.requires.source (omega (arith, c.requires.room));
     }
 
 pub loop-s-init : goal.loop-s-init
-loop-s-init g c = (omega arith, refl, c.last-tail-tail.ensures, swept_none _ _ _ _)
+loop-s-init g c = (omega arith, refl, c.last_tail-tail.ensures, swept_none _ _ _ _)
 
 pub single-value-requires : goal.single-value-requires
 single-value-requires g c =
@@ -43,7 +43,7 @@ loop-s-preserved g c =
     ∙ tail_step law c.args.fold at c.args.width c.requires.some m s c.loop-s.tail less (inv.2 ∙ ap (λ i. over l c.args.fold at i (reach m c.args.width i)) up) in
     let whole = reach_whole m c.args.width s c.args.to.count c.requires.some (omega (arith, c.requires.some)) (omega (arith, inv.0, up)) in (
       omega (arith, inv.0),
-      c.place-before-place.ensures s here,
+      c.place_before-place.ensures s here,
       tail,
       subst (Swept c.args.to.first s c.args.to.count (λ i _. over l c.args.fold at i (c.args.width - i % c.args.width)) c.args.chart.now) (sym c.put.ensures)
           (swept_down _ s _ _ _ _ _ (omega (arith, inv.0, up)) (omega (arith, inv.0, up, inv.3.size, c.requires.room)) (λ d. tail ∙ ap (over l c.args.fold at s) whole)
@@ -58,5 +58,5 @@ returns g c =
 pub put-requires : goal.put-requires
 put-requires g c = omega (arith, c.loop-s.invariant.0, c.loop-s.invariant.3.size, c.requires.room, c.loop-s-test.true)
 
-pub place-before-place-requires : goal.place-before-place-requires
-place-before-place-requires g c = c.requires.some
+pub place_before-place-requires : goal.place_before-place-requires
+place_before-place-requires g c = c.requires.some

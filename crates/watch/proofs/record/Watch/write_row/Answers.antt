@@ -11,8 +11,8 @@ use Rattle.watch.proofs.Folds.{over_same}
 use Rattle.watch.proofs.Charting.{span_is, long_is, facts_there, named_lower, window_there, below_row, room_row, charted_from, cell_from, table_long, frames_is}
 use Rattle.watch.proofs.record.Watch.write_row.Goals as goal
 
-pub overflow-sub-count : goal.overflow-sub-count
-overflow-sub-count g c =
+pub overflow_sub-count : goal.overflow_sub-count
+overflow_sub-count g c =
     let lens = c.lengths-lengths.ensures in
     let n_is = frames_is (progress_of c.args.self.now) _ _ c.from-n.ensures c.length.ensures in
     omega (arith, lens.each c.args.at (table_long c.requires.ready _ lens.count), c.requires.short, n_is)

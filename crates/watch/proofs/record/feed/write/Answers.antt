@@ -9,6 +9,6 @@ returns g c =
     let log = c.args.log.now in
     let some : from + count - from ≡ count = omega arith in
     let whole : count - 0 ≡ count = omega arith in
-    let written = c.copy-from-slice.ensures.after ∙ ap (λ n. take n c.args.strip.now) whole in
+    let written = c.copy_from_slice.ensures.after ∙ ap (λ n. take n c.args.strip.now) whole in
     let rest = ap (λ n. drop n (drop from log)) some ∙ drop-drop count from log in
     λ i. take from log ++ (written i ++ rest i)
