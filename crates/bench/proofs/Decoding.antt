@@ -1,6 +1,7 @@
 -- A frame that is written word by word.
-use Rattle.std.proofs.Common.{◌≡◌, ℕ, zero, suc, ◌+◌, ◌<◌, List, [], ◌∷◌, ◌++◌, length, drop, set, sym, refl, ap, ◌∙◌, append_assoc, add-one, arith}
-use Rattle.std.proofs.lemmas.List.{length-append, set_at, at_drop_more}
+use Rattle.std.proofs.Common.{◌≡◌, ℕ, zero, suc, ◌+◌, ◌<◌, List, [], ◌∷◌, ◌++◌, length, get_or, drop, set, sym, refl, ap, ◌∙◌, append_assoc, add-one, ⊎_elim, arith}
+use Rattle.std.proofs.lemmas.List.{length-append, get_or_at, set_at, at_drop_more}
+use Rattle.std.proofs.lemmas.Bool.{cases_eq}
 use Rattle.grade.specs.declared.voices.Voices.{Voices}
 use Rattle.bench.specs.Words.{word_at, words, decoded}
 
@@ -15,3 +16,13 @@ one_more bytes before n v inside is =
     ∙ ap (λ x. words bytes n ++ x ∷ drop (n + 1) before) is
     ∙ sym (append_assoc (words bytes n) (word_at bytes n ∷ []) (drop (n + 1) before))
     ∙ ap (λ k. words bytes k ++ drop (n + 1) before) (sym (add-one n))
+
+-- each of the words stands in its place
+pub word_there : (bytes : List ℕ) (n : ℕ) (rest : List Voices) (f : ℕ) (d : Voices) → f < n → get_or (words bytes n ++ rest) f d ≡ word_at bytes f
+word_there bytes zero rest f d h = absurd (omega arith)
+word_there bytes (suc n) rest f d h =
+    ap (λ l. get_or l f d) (append_assoc (words bytes n) (word_at bytes n ∷ []) rest)
+    ∙ ⊎_elim
+    (λ last. get_or_at (words bytes n) (word_at bytes n) rest d f (words_size bytes n ∙ sym last) ∙ ap (word_at bytes) (sym last))
+    (λ other. word_there bytes n (word_at bytes n ∷ rest) f d (omega (arith, other)))
+    (cases_eq f n)

@@ -1,5 +1,6 @@
 // Judges a patch by its sheet as the frames come in, from standard input or from the file that is named.
 #![tactic(auto)]
+
 ghost use Rattle.std.specs.Prelude.{◌≤◌, IfOk};
 
 mod frames;

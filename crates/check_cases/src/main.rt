@@ -1,5 +1,6 @@
 // Judges sheets by the hundred: a sheet in hexadecimal on each line, its answer of `check` on each line.
 #![tactic(auto)]
+
 ghost use Rattle.std.specs.Prelude.{◌<◌};
 
 use sheet::check::check;

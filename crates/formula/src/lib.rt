@@ -1,6 +1,7 @@
 // Formulas: rules as trees, their grades, and what is true of them in every lattice of grades.
 // The trees are definitions that nothing runs; each function below promises one law of them.
 #![tactic(auto)]
+
 ghost use Rattle.formula.specs.Laws.{PublishedMeaning, Local, Enclosure, Narrowing, EndsReached, CarriesGrades};
 ghost use Rattle.formula.specs.Neighbours.{NeighboursDiffer};
 

@@ -1,5 +1,6 @@
 // Grades: the values that facts, rows and rules are graded in, as lattices with a flip.
 #![tactic(auto)]
+
 ghost use Rattle.std.specs.Prelude.{◌≡◌};
 ghost use Rattle.grade.specs.Lattice.{Lattice, Lawful};
 

@@ -1,5 +1,6 @@
 // Reads a sheet from standard input to its end, and prints what it says, or the notice of why it is none.
 #![tactic(auto)]
+
 use listing::told;
 use std::io;
 use std::io::{Read, Write};

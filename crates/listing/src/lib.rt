@@ -1,5 +1,6 @@
 // A sheet in words that a designer can read.
 #![tactic(auto)]
+
 ghost use Rattle.std.specs.Prelude.{◌≡◌, IfOk, string_bytes};
 ghost use Rattle.sheet.specs.Loading.{load_result};
 ghost use Rattle.sheet.specs.Sheets.{sheet_of};

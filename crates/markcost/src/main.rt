@@ -1,5 +1,6 @@
 // Marks the heaviest sheet over voices, as many times as its argument says, and prints the last span.
 #![tactic(auto)]
+
 ghost use Rattle.std.specs.Prelude.{◌≤◌};
 
 use grade::{Span, Voices};

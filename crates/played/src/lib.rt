@@ -1,5 +1,6 @@
 // Worked cases of the whole watcher, as one table that the checker computes.
 #![tactic(auto)]
+
 ghost use Rattle.std.specs.Prelude.{◌≡◌, true};
 ghost use Rattle.played.specs.Table.{table, all_right, all_exact};
 

@@ -1,5 +1,6 @@
 // Judges thousands of cases by the product and by a second reckoning, and prints where they differ and how many there were.
 #![tactic(auto)]
+
 mod cases;
 mod dice;
 mod draft;

@@ -1,5 +1,6 @@
 // Every way in which a call says no, and the number by which it is known outside.
 #![tactic(auto)]
+
 ghost use Rattle.std.specs.Prelude.{◌≡◌};
 ghost use Rattle.refusal.specs.Numbers.{number_of};
 ghost use Rattle.refusal.specs.declared.Refusal.{Refusal};

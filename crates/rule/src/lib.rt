@@ -1,6 +1,7 @@
 // What the rule of a sheet means: its rows as a formula, and what is true of its grade.
 // The formulas are definitions that nothing runs; each function below promises one law of the rules of sheets.
 #![tactic(auto)]
+
 ghost use Rattle.rule.specs.Laws.{RowsAreFormulas, PublishedRule, RuleEnclosed, RuleNarrows, EndsCanCome, RuleCarried};
 
 use grade::{Grade, Translation};

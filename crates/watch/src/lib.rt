@@ -1,5 +1,6 @@
 // A watch: it holds a sheet, accepts frames, and marks what the rule can still come to.
 #![tactic(auto)]
+
 pub mod judge;
 pub mod outcome;
 pub mod record;

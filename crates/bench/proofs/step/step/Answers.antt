@@ -32,6 +32,7 @@ returns c =
     record {
       watch = c.feed.ensures.watch ∙ ap (λ r. advanced before (accepted_by r)) answer;
       log = c.feed.ensures.log ∙ ap (λ r. logged before (accepted_by r) frame log) answer;
+      text = line;
       answer =
           subst (λ r. Ok place ≡ step_answer r before log frame (length old)) fed.answer
           (subst (λ p. Ok place ≡ told (mark_refusal p (length whole) (length old)) (line_after p whole)) fed.watch
