@@ -1,4 +1,4 @@
-/* The check of a sheet, for C. The library is target/staticlib/libsheet.a, which `rt staticlib sheet` makes. */
+/* The check of a sheet, for C. The library is target/staticlib/libsheet.a, which c/run.sh makes of the crate sheet_c. */
 #ifndef RAUPSILO_H
 #define RAUPSILO_H
 

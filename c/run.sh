@@ -7,8 +7,10 @@ cd "$(dirname "$0")/.."
 if [ $# -gt 0 ]; then
     library=$1
 else
-    rt staticlib sheet
+    (cd crates/sheet_c && rt lib)
+    mkdir -p target/staticlib
     library=target/staticlib/libsheet.a
+    cp crates/sheet_c/out/libsheet_c.a "$library"
 fi
 
 cases=crates/check_cases
@@ -22,9 +24,8 @@ if ! { cc "$sanitize" "$out/probe.c" -o "$out/probe" && "$out/probe"; } 2> /dev/
     sanitize=
 fi
 
-# what the library may call stands in the kit; $sanitize is one word or none
-support=$(dirname "$(dirname "$(rt doc)")")/lib/librattle_c.a
-cc -std=c11 -Wall -Wextra -Werror -O1 -g $sanitize c/check_main.c "$library" "$support" -o "$out/check_main"
+# $sanitize is one word or none
+cc -std=c11 -Wall -Wextra -Werror -O1 -g $sanitize c/check_main.c "$library" -o "$out/check_main"
 
 echo "the sheets that are built in:"
 "$out/check_main"

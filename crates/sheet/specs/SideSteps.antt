@@ -24,11 +24,11 @@ abbrev pub Raised : List Bool → Bool → List ℕ → List Bool → Type 0
 Raised before go these later = (k : ℕ) → slice_index_or later k false ≡ (slice_index_or before k false || (go && has these k))
 
 -- what a row does to the flags of one side, if it is reached on that side, and to those of the other
-pub record HandedOn (row : Row) (reached : Bool) (same other same-later other-later : Side) : Type 0 where
-  pub same_rows : Raised same.rows (reached && not (turns row)) (named_by row) same-later.rows
-  pub same_facts : Raised same.facts (reached && not (turns row)) (facts_of row) same-later.facts
-  pub other_rows : Raised other.rows (reached && turns row) (named_by row) other-later.rows
-  pub other_facts : Raised other.facts (reached && turns row) (facts_of row) other-later.facts
+pub record HandedOn (row : Row) (reached : Bool) (same other same_later other_later : Side) : Type 0 where
+  pub same_rows : Raised same.rows (reached && not (turns row)) (named_by row) same_later.rows
+  pub same_facts : Raised same.facts (reached && not (turns row)) (facts_of row) same_later.facts
+  pub other_rows : Raised other.rows (reached && turns row) (named_by row) other_later.rows
+  pub other_facts : Raised other.facts (reached && turns row) (facts_of row) other_later.facts
 
 -- the flags tell which facts are reached plain, and which turned
 pub record FactsReached (w : Written) (plain turned : List Bool) : Type 0 where
