@@ -1,8 +1,7 @@
 -- A place that a text was written into.
-use Rattle.std.proofs.Common.{◌≡◌, ℕ, ◌≤◌, List, ◌++◌, length, drop, Ok, Err, Result, sym, ap, ◌∙◌, append-nil}
+use Rattle.std.proofs.Common.{◌≡◌, ℕ, ◌≤◌, List, ◌++◌, length, drop, Ok, Err, sym, ap, ◌∙◌, append-nil}
 use Rattle.std.proofs.lemmas.List.{drop_all}
-use Rattle.refusal.specs.declared.Refusal.{Refusal}
-use Rattle.report.specs.Places.{WrittenInto, OneOutcome}
+use Rattle.report.specs.Places.{OneOutcome}
 
 -- a place of just its text's size holds the text and nothing else
 pub just_filled : (text before : List ℕ) → length before ≤ length text → text ++ drop (length text) before ≡ text

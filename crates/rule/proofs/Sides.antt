@@ -12,8 +12,7 @@ use Rattle.sheet.specs.declared.row.Row.{Row}
 use Rattle.sheet.specs.declared.row.Row.TheVariants.{Always, Hold, HoldOff, Both, Either, Not, Then, Within}
 use Rattle.sheet.proofs.Has.{has_one, has_left, has_right, only}
 use Rattle.sheet.proofs.Sides.{turned_by, straight, chain_on, reach_on, chain_under}
-use Rattle.rule.specs.Trees.{tree_of, tree_at}
-use Rattle.rule.specs.Trees.{rule_of}
+use Rattle.rule.specs.Trees.{tree_of, tree_at, rule_of}
 use Rattle.rule.proofs.Trees.{tree_step, upward, kept_lower}
 
 -- one side seen from another: of two turns nothing is left

@@ -9,8 +9,7 @@ use Rattle.sheet.specs.Rules.{has, all_under, length_of, IsInner, made, passed, 
 use Rattle.sheet.specs.declared.row.Row.{Row}
 use Rattle.sheet.specs.declared.row.Row.TheVariants.{Always, Hold, HoldOff, Both, Either, Not, Then, Within}
 use Rattle.sheet.proofs.Has.{has_one, has_left, has_right, has_lower, made_named}
-use Rattle.rule.specs.Trees.{tree_of, tree_at}
-use Rattle.rule.specs.Trees.{rule_of}
+use Rattle.rule.specs.Trees.{tree_of, tree_at, rule_of}
 use Rattle.rule.proofs.Trees.{tree_step, horizon_length, upward, kept_lower}
 
 never_inside : (inside : Bool) → (inside ≡ true → false ≡ true) → inside ≡ false

@@ -12,8 +12,7 @@ use Rattle.sheet.specs.declared.row.Row.{Row}
 use Rattle.sheet.specs.declared.row.Row.TheVariants.{Always, Hold, HoldOff, Both, Either, Not, Then, Within}
 use Rattle.sheet.proofs.Has.{has_one, has_left, has_right, has_lower}
 use Rattle.sheet.proofs.Reading.{range_lower}
-use Rattle.rule.specs.Trees.{tree_of, trees_of, tree_at}
-use Rattle.rule.specs.Trees.{rule_of}
+use Rattle.rule.specs.Trees.{tree_of, trees_of, tree_at, rule_of}
 
 -- the formula of a row rests on those of the rows that it names, and on no others
 pub tree_by_named : (f g : ℕ → Formula) (r : Row) → ((i : ℕ) → has (named_by r) i ≡ true → f i ≡ g i) → tree_of f r ≡ tree_of g r

@@ -6,7 +6,6 @@ use Rattle.grade.specs.Lattice.{Lattice, Lawful}
 use Rattle.grade.specs.Spans.{spans, encloses, lies_within}
 use Rattle.grade.specs.Translations.{Carries, by_ends}
 use Rattle.grade.specs.declared.span.Span.{Span}
-use Rattle.formula.specs.Known.{known}
 use Rattle.sheet.specs.Rules.{Written, Keeps}
 use Rattle.rule.specs.Meaning.{rule_span, rule_grade}
 use Rattle.formula.proofs.Known.{known_by}
@@ -14,7 +13,7 @@ use Rattle.rule.proofs.Rules.{enclosed, narrows, ends_can_come, rule_carried}
 use Rattle.watch.specs.declared.outcome.Mark.{Mark}
 use Rattle.watch.specs.Feeding.{progress, take_length, feed_answer}
 use Rattle.watch.specs.Marking.{log_trace, mark_span, mark_refusal, Marked}
-use Rattle.watch.specs.Life.{Event, fed, Life, begins, feeds, marks, take_size, accepted, having, rule_on, Earlier, Kept, WholeLife}
+use Rattle.watch.specs.Life.{Event, Life, begins, feeds, marks, take_size, accepted, having, rule_on, Earlier, Kept, WholeLife}
 use Rattle.watch.proofs.Frames.{InStep, in_step, frames_in, count_is, size_kept}
 use Rattle.watch.proofs.Marks.{no_refusal}
 use Rattle.watch.proofs.Takes.{traces_agree, trace_carried}

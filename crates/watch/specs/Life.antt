@@ -2,7 +2,7 @@
 use Rattle.std.specs.Prelude.{◌≡◌, ℕ, ◌-◌, ◌*◌, ◌/◌, ◌%◌, ◌≤◌, true, ◌⊎◌, List, [], ◌∷◌, ◌++◌, map, length, take, Some, None, Ok, Err, Decides, Result}
 use Rattle.refusal.specs.declared.Refusal.{Refusal}
 use Rattle.grade.specs.Lattice.{Lattice}
-use Rattle.grade.specs.Spans.{spans, encloses, lies_within}
+use Rattle.grade.specs.Spans.{encloses, lies_within}
 use Rattle.grade.specs.Translations.{by_ends}
 use Rattle.grade.specs.declared.span.Span.{Span}
 use Rattle.formula.specs.Grades.{grade}

@@ -1,4 +1,4 @@
-use Rattle.std.proofs.Common.{◌≡◌, ◌+◌, ◌*◌, ◌<◌, length, get_or, drop, set, ap, ◌∙◌, arith}
+use Rattle.std.proofs.Common.{◌≡◌, ◌+◌, ◌*◌, get_or, drop, set, ap, ◌∙◌, arith}
 use Rattle.grade.specs.Voices.{word}
 use Rattle.bench.proofs.Decoding.{one_more, word_there}
 use Rattle.bench.proofs.frames.decode.Goals as goal

@@ -1,4 +1,4 @@
-use Rattle.std.proofs.Common.{◌+◌, length, get_or, sym, refl, ap, ◌∙◌, ap₂, zero-add, add-one, arith}
+use Rattle.std.proofs.Common.{◌+◌, get_or, sym, refl, ap, ◌∙◌, ap₂, zero-add, add-one, arith}
 use Rattle.grade.specs.Spans.{spans}
 use Rattle.formula.specs.Grades.{meet_over, join_over}
 use Rattle.sheet.specs.Rules.{row_at}
