@@ -95,7 +95,7 @@ abbrev pub none_right : List Case → Bool
 none_right [] = true
 none_right (c ∷ cs) = not (right c) && none_right cs
 
--- no line would be right with a part of its answer changed
+-- no line would be right with one of these parts of its answer changed
 abbrev pub all_exact : List Case → Bool
 all_exact [] = true
 all_exact (c ∷ cs) = none_right (changed c) && all_exact cs
