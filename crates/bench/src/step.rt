@@ -43,7 +43,6 @@ mod tests {
     use grade::{Margin, Span, Voices};
     use sheet::record::Sheet;
     use std::mem::size_of;
-    use std::test::Fail;
     use watch::judge::settle;
     use watch::record::Watch;
 
@@ -73,7 +72,7 @@ mod tests {
     }
 
     #[test]
-    fn a_margin_is_settled_early(rt: HostRuntime) -> Result<(), Fail> {
+    fn a_margin_is_settled_early(rt: HostRuntime) {
         let mut sheet = Sheet::new();
         assert!(rt; sheet.load(&WINDOW).is_ok());
         let mut watch = Watch::start(&sheet);
@@ -86,16 +85,15 @@ mod tests {
         );
         let Ok(mark) = watch.mark(&log, &mut chart) else {
             assert!(rt; false);
-            return Ok(());
+            return;
         };
         assert_eq!(rt; mark.span.low.value(), 3);
         assert_eq!(rt; mark.span.high.value(), 3);
         assert!(rt; mark.settled);
-        Ok(())
     }
 
     #[test]
-    fn a_then_goes_on_with_the_next_frame(rt: HostRuntime) -> Result<(), Fail> {
+    fn a_then_goes_on_with_the_next_frame(rt: HostRuntime) {
         let mut sheet = Sheet::new();
         assert!(rt;
             sheet
@@ -108,9 +106,8 @@ mod tests {
         assert!(rt; watch.feed(&mut log, &[true, true, true, false]).is_ok());
         let Ok(mark) = settle(&watch, &log, &mut chart) else {
             assert!(rt; false);
-            return Ok(());
+            return;
         };
         assert!(rt; mark.settled && !mark.span.high);
-        Ok(())
     }
 }

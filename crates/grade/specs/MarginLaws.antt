@@ -18,7 +18,7 @@ value_of (negsuc n) h = ap negsuc (omega arith)
 
 pub flip_value : (x : Margin) → (margins.flip x).value ≡ negsuc 0 -ℤ x.value
 flip_value x =
-    let x_Fits = fits x in
+    let x_fits = fits x in
     let flip_fits : FitsSigned w32 (negsuc 0 -ℤ x.value) = omega (arith, ints) in
     value_of (negsuc 0 -ℤ x.value) flip_fits.sfits
 

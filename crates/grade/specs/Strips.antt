@@ -8,8 +8,9 @@ abbrev pub Carried : {V W : Type 0} → (V → W) → List V → List W → List
 Carried f from to after answer =
     MatchBool (length from == length to) ((answer ≡ Ok tt) × (after ≡ map f from)) ((answer ≡ Err UnequalStrips) × (after ≡ to))
 
-abbrev pub carried_answer : (from to : ℕ) → Result (Unit {0}) Refusal
-carried_answer from to = cond (from == to) (Ok tt) (Err UnequalStrips)
+-- a strip of one length is carried into one of the same, and into no other
+abbrev pub carried_answer : (sent room : ℕ) → Result (Unit {0}) Refusal
+carried_answer sent room = cond (sent == room) (Ok tt) (Err UnequalStrips)
 
 -- into a strip of the same length every grade arrives translated; any other stays as it is
 abbrev pub carried : {V W : Type 0} → (V → W) → List V → List W → List W

@@ -75,11 +75,11 @@ abbrev pub all_right : List Case → Bool
 all_right [] = true
 all_right (c ∷ cs) = right c && all_right cs
 
--- The same question with one part of its answer changed, for each part; of a refused feed the line says the number alone.
 abbrev pub other_int : ℤ → ℤ
 other_int (pos n) = negsuc n
 other_int (negsuc n) = pos n
 
+-- The same question with one part of its answer changed, for each part that its answer rests on.
 abbrev pub changed : Case → List Case
 changed (checks sheet answer) = checks sheet (suc answer) ∷ []
 changed (hears sheet words low high text) = hears sheet words (suc low) high text ∷ hears sheet words low (suc high) text ∷ hears sheet words low high (0 ∷ text) ∷ []
@@ -95,10 +95,15 @@ abbrev pub none_right : List Case → Bool
 none_right [] = true
 none_right (c ∷ cs) = not (right c) && none_right cs
 
--- no line would be right with one of these parts of its answer changed
+-- A feed that is refused accepts nothing, and its line says so.
+abbrev pub nothing_accepted : Case → Bool
+nothing_accepted (feeds sheet count log strip accepts (suc n)) = accepts == 0
+nothing_accepted _ = true
+
+-- no line would stand with a part of its answer changed
 abbrev pub all_exact : List Case → Bool
 all_exact [] = true
-all_exact (c ∷ cs) = none_right (changed c) && all_exact cs
+all_exact (c ∷ cs) = (nothing_accepted c && none_right (changed c)) && all_exact cs
 
 -- hold 1 within 0 to 3
 abbrev pub window : List ℕ

@@ -46,7 +46,8 @@ played =
 abbrev pub ends : Mark Voices → List ℕ
 ends m = m.span.low.bits ∷ m.span.high.bits ∷ []
 
--- It is a life, with these frames accepted and this refusal; the promise holds of it, here for the translation to voice 0; and these are its marks.
+-- It is a life, with these frames accepted and this refusal; the promise holds of it, here for the translation to voice 0; and
+-- these are its marks.
 pub record PlayedLife : Type 0 where
   pub lived : Life voices window played 4 (log_of 3 1 6 6)
   pub frames : accepted window played ≡ log_of 3 1 6 6
