@@ -20,7 +20,7 @@ LOCAL = re.compile(rf"\blet ({NAME})")
 BINDER = re.compile(rf"λ ((?:{NAME} ?|\([^)]*\) ?)+)\.")
 
 
-def ours(path):
+def ours():
     return sorted(p for kind in ("specs", "proofs") for p in glob.glob(f"crates/*/{kind}/**/*.antt", recursive=True))
 
 
@@ -34,7 +34,7 @@ def new_name(name):
 def definitions():
     """The names that the repository defines, the fields among them, and where each is defined."""
     names, fields = collections.defaultdict(set), set()
-    for path in ours("."):
+    for path in ours():
         inside = None
         for line in open(path, encoding="utf-8"):
             if line.lstrip().startswith("--"):
@@ -133,7 +133,7 @@ def main():
         for old in sorted(table):
             print(old, "→", table[old], "" if len(meets[table[old]]) == 1 else f"MEETS {sorted(meets[table[old]])}")
         return
-    jobs = [(p, lambda t: respell(t, "--", table, fields)) for p in ours(".")]
+    jobs = [(p, lambda t: respell(t, "--", table, fields)) for p in ours()]
     jobs += [(p, lambda t: respell(t, "//", table, fields)) for p in sorted(glob.glob("crates/*/src/**/*.rt", recursive=True))]
     jobs += [(p, lambda t: respell_edit(t, table, fields)) for p in sorted(glob.glob("crates/*/must-fail/*.edit"))]
     jobs += [(p, lambda t: respell_page(t, table, fields, names)) for p in ["README.md", *sorted(glob.glob("docs/*.md"))]]
