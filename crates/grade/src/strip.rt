@@ -13,8 +13,8 @@ pub fn carry<T: Translation>(t: &T, from: &[T::From], to: &mut [T::To]) -> Resul
     if from.len() != to.len() {
         return Err(Refusal::UnequalStrips);
     }
-    for i in 0..from.len() {
-        to[i] = t.translate(from[i]);
+    for (i, place) in to.iter_mut().enumerate() {
+        *place = t.translate(from[i]);
     }
     Ok(())
 }

@@ -18,7 +18,7 @@ impl Grade for bool {
     }
 
     fn below(self, other: bool) -> bool {
-        !self | other
+        self <= other
     }
 
     fn meet(self, other: bool) -> bool {

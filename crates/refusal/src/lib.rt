@@ -7,18 +7,18 @@ ghost use Rattle.refusal.specs.declared.Refusal.{Refusal};
 
 #[derive(Clone, Copy, Debug, PartialEq, Eq)]
 pub enum Refusal {
-    Sizes,
-    Kind,
-    Operand,
-    Length,
-    Unnamed,
-    Inner,
-    ShortLog,
-    BrokenStrip,
-    TakeComplete,
-    ShortChart,
-    UnequalStrips,
-    Place,
+    Sizes = 1,
+    Kind = 2,
+    Operand = 3,
+    Length = 4,
+    Unnamed = 5,
+    Inner = 6,
+    ShortLog = 7,
+    BrokenStrip = 8,
+    TakeComplete = 9,
+    ShortChart = 10,
+    UnequalStrips = 11,
+    Place = 12,
 }
 
 impl Refusal {
@@ -26,19 +26,6 @@ impl Refusal {
         ensures value { result ≡ number_of self }
         ensures own { (other : Refusal) → number_of other ≡ result → other ≡ self }
     {
-        match self {
-            Refusal::Sizes => 1,
-            Refusal::Kind => 2,
-            Refusal::Operand => 3,
-            Refusal::Length => 4,
-            Refusal::Unnamed => 5,
-            Refusal::Inner => 6,
-            Refusal::ShortLog => 7,
-            Refusal::BrokenStrip => 8,
-            Refusal::TakeComplete => 9,
-            Refusal::ShortChart => 10,
-            Refusal::UnequalStrips => 11,
-            Refusal::Place => 12,
-        }
+        self as u8
     }
 }

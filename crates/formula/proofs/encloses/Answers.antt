@@ -1,5 +1,5 @@
 use Rattle.formula.proofs.Enclose.{enclosure}
 use Rattle.formula.proofs.encloses.Goals as goal
 
-pub returns-clause-holds : goal.returns-clause-holds
-returns-clause-holds g c = enclosure g.met.G.Grade.lawful
+pub returns : goal.returns
+returns g c = enclosure g.met.G.Grade.lawful

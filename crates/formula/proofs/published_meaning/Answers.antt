@@ -1,5 +1,5 @@
 use Rattle.formula.proofs.Published.{published}
 use Rattle.formula.proofs.published_meaning.Goals as goal
 
-pub returns-clause-holds : goal.returns-clause-holds
-returns-clause-holds c = published
+pub returns : goal.returns
+returns c = published

@@ -35,15 +35,15 @@ impl Grade for Margin {
     }
 
     fn below(self, other: Margin) -> bool {
-        self.value <= other.value
+        self <= other
     }
 
     fn meet(self, other: Margin) -> Margin {
-        if self.below(other) { self } else { other }
+        self.min(other)
     }
 
     fn join(self, other: Margin) -> Margin {
-        if other.below(self) { self } else { other }
+        self.max(other)
     }
 
     // Not the sign's turn: -1 - m trades 0 for -1, and every margin has a partner.

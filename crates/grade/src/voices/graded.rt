@@ -21,6 +21,7 @@ impl Voices {
     }
 
     // What `below` asks, in words of single voices.
+    #[tactic(auto, using(crate::specs::VoicesLaws::order_by_voices))]
     pub fn order_by_voices()
         ensures { OrderByVoices }
     {}

@@ -1,5 +1,5 @@
 use Rattle.rule.proofs.Rules.{enclosed}
 use Rattle.rule.proofs.encloses.Goals as goal
 
-pub returns-clause-holds : goal.returns-clause-holds
-returns-clause-holds g c = enclosed g.met.G.Grade.lawful
+pub returns : goal.returns
+returns g c = enclosed g.met.G.Grade.lawful

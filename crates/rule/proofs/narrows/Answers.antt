@@ -1,5 +1,5 @@
 use Rattle.rule.proofs.Rules.{narrows}
 use Rattle.rule.proofs.narrows.Goals as goal
 
-pub returns-clause-holds : goal.returns-clause-holds
-returns-clause-holds g c = narrows g.met.G.Grade.lawful
+pub returns : goal.returns
+returns g c = narrows g.met.G.Grade.lawful

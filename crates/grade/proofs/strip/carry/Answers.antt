@@ -6,11 +6,11 @@ use Rattle.grade.proofs.strip.carry.Goals as goal
 pub loop-i-preserved : goal.loop-i-preserved
 loop-i-preserved g c =
     one_more _ c.args.from.now c.loop-i.to c.loop-i.i c.index-from-i.result c.translate.result
-    c.loop-i-test.true (omega arith) c.index-from-i.is c.translate.ensures c.loop-i.invariant
+    (omega arith) (omega arith) c.index-from-i.is c.translate.ensures c.loop-i.invariant
 
 pub returns : goal.returns
 returns g c =
-    let arrived = all _ c.args.from.now c.loop-i.to c.loop-i.i c.loop-i-test.false (omega arith) c.loop-i.invariant in
+    let arrived = all _ c.args.from.now c.loop-i.to c.loop-i.i (omega arith) (omega arith) c.loop-i.invariant in
     let same = eq-eqb _ _ c.if-from-to.false in record {
       whole = rw same (refl, arrived);
       answer = rw same refl;
