@@ -1,5 +1,5 @@
 -- How the three searches for a fault come together in what the bytes come to.
-use Rattle.std.proofs.Common.{◌≡◌, ℕ, zero, suc, ◌+◌, ◌-◌, ◌<◌, ◌≤◌, Bool, true, false, cond, not, ◌&&◌, leb, List, [], ◌∷◌, length, get_or, take, drop, Some, None, Option, sym, refl, ap, ◌∙◌, subst, ⊎_elim, add-zero, arith}
+use Rattle.std.proofs.Common.{◌≡◌, ℕ, zero, suc, ◌+◌, ◌-◌, ◌<◌, ◌≤◌, Bool, true, false, cond, not, ◌&&◌, leb, ltb, List, [], ◌∷◌, length, get_or, take, drop, Some, None, Option, sym, refl, ap, ◌∙◌, subst, subst₂, ⊎_elim, add-zero, arith}
 use mathlib.Core.Path.{fun_ext}
 use Rattle.std.proofs.lemmas.List.{get_or_append_left, get_or_past, get_or-take, length-take-le, take_all, ext_get_or}
 use Rattle.std.proofs.lemmas.Bool.{cases_eq, cases_lt, cond-true, cond-false, le-ltb, and_parts, leb-true, leb-false}
@@ -14,8 +14,9 @@ use Rattle.sheet.specs.Bytes.{Body, body_of, sizes_right, kind_in, operands_in, 
 use Rattle.sheet.specs.Loading.{operands_right, row_fault, name_fault, inner_fault, is_inner, same, Verdict, accepted, refused, or_fault, or_lowest, rows_from, judged, load_result}
 use Rattle.sheet.specs.Faults.{Faultless, Lowest}
 use Rattle.sheet.specs.Conditions.{RowRight}
-use Rattle.sheet.specs.Steps.{AllRead, Ordered}
-use Rattle.sheet.proofs.Reading.{range_lower, length_lengths, length_of_is}
+use Rattle.sheet.specs.Steps.{AllRead}
+use Rattle.sheet.specs.declared.table.Table.{Table}
+use Rattle.sheet.proofs.Reading.{range_lower, length_lengths, length_of_is, Sofar}
 use Rattle.sheet.proofs.Inner.{inner_complete}
 use Rattle.sheet.proofs.Writing.{same_true}
 
@@ -57,33 +58,45 @@ lengths_prefix row (suc n) j h =
     (λ other. let less : j < n = omega (arith, other) in get_or_append_left (lengths_of row n) _ 0 j (omega (arith, length_lengths row n)) ∙ lengths_prefix row n j less)
     (cases_eq j n)
 
+cond_twice : (t : Bool) (x y : Row) → cond t (cond t x y) y ≡ cond t x y
+cond_twice true x y = refl
+cond_twice false x y = refl
+
 pub past_rows : (b : Body) (j : ℕ) → b.count ≤ j → row_in b j ≡ Always
 past_rows b j h = cond-false _ _ _ (le-ltb j b.count h)
 
-module _ (b : Body) (rows : List Row) (lens : List ℕ) (few : b.count ≤ 32) (a : AllRead b rows lens) where
-  pub rows_are : row_at rows ≡ row_in b
-  rows_are = fun_ext a.row
+-- the tables as all rows are read into them
+module _ (b : Body) (rows : List Row) (lens : List ℕ) (s : Sofar b b.count rows lens) where
+  pub rows_read : (j : ℕ) → row_at rows j ≡ row_in b j
+  rows_read j = s.row j ∙ cond_twice (ltb j b.count) _ Always
 
-  pub taken_are : row_at (take b.count rows) ≡ row_in b
-  taken_are = fun_ext (λ j.
-      ⊎_elim
-      (λ less. get_or-take b.count rows j Always less ∙ a.row j)
-      (λ more. get_or_past (take b.count rows) j Always (omega (arith, length-take-le b.count rows (omega (arith, a.size)))) ∙ sym (past_rows b j more))
-      (cases_lt j b.count))
+  pub read_right : (k : ℕ) → k < b.count → in_range b.facts k (row_at rows k) ≡ true
+  read_right k h = ap (in_range b.facts k) (rows_read k) ∙ (row_right b k (s.fine k h)).operands.1
 
-  pub rows_lower : (k : ℕ) → k < b.count → all_under k (named_by (row_in b k)) ≡ true
-  rows_lower = lower_rows b (λ k h. row_right b k (a.fine k h))
-
-  pub ordered : Ordered rows b.count
-  ordered = record { few = few; lower = subst (λ f. (k : ℕ) → k < b.count → all_under k (named_by (f k)) ≡ true) (sym rows_are) rows_lower }
-
-  pub lengths_are : (j : ℕ) → get_or lens j 0 ≡ length_of (row_in b) j
-  lengths_are j =
-      a.lengths.entry j ∙
+  pub lengths_read : (j : ℕ) → get_or lens j 0 ≡ length_of (row_at rows) j
+  lengths_read j =
+      s.lengths.entry j ∙
       ⊎_elim
       (lengths_prefix (row_in b) b.count j)
       (λ more. get_or_past (lengths_of (row_in b) b.count) j 0 (omega (arith, length_lengths (row_in b) b.count)) ∙ sym (length_of_is (row_in b) j ∙ ap (row_length (λ i. get_or (lengths_of (row_in b) j) i 0)) (past_rows b j more)))
       (cases_lt j b.count)
+      ∙ ap (λ row. length_of row j) (sym (fun_ext rows_read))
+
+-- the table that was read
+module _ (b : Body) (t : Table) (a : AllRead b t) where
+  pub rows_are : row_at t.rows ≡ row_in b
+  rows_are = fun_ext a.rows
+
+  pub taken_are : row_at (take b.count t.rows) ≡ row_in b
+  taken_are = fun_ext (λ j.
+      ⊎_elim
+      (λ less. get_or-take b.count t.rows j Always less ∙ a.rows j)
+      (λ more. get_or_past (take b.count t.rows) j Always (omega (arith, length-take-le b.count t.rows (omega (arith, a.count, t.few, t.sized)))) ∙ sym (past_rows b j more))
+      (cases_lt j b.count))
+
+  -- what the table says, said of the bytes
+  pub said_of_bytes : (P : ℕ → (ℕ → Row) → Type 0) → P t.count (row_at t.rows) → P b.count (row_in b)
+  said_of_bytes P = subst₂ P a.count rows_are
 
   pub right : RowsRight b.facts b.count (row_in b)
   right k h = (row_right b k (a.fine k h)).operands.1

@@ -16,7 +16,6 @@ use Rattle.sheet.specs.Loading.{same, operands_right, row_fault, name_fault, is_
 use Rattle.sheet.specs.Faults.{Faultless, Lowest}
 use Rattle.sheet.specs.Conditions.{Sized, KindRight, OperandsRight, LengthRight, RowRight, ComeTo, AllRight, InnerFits, RefusedFor}
 use Rattle.sheet.proofs.Reading.{sizes_say, row_in_below}
-use Rattle.sheet.proofs.Sweeps.{not_both}
 use Rattle.sheet.proofs.Inner.{inner_sound, inner_complete}
 use Rattle.sheet.proofs.Judging.{row_right, lower_rows, past_rows, name_fine, inner_fine_says, all_named, inner_right, length_rows, row_from, rows_again, judged_row, judged_name, judged_inner, judged_sheet}
 use Rattle.sheet.proofs.Writing.{three_operands, read_back, kind_below, kind_back, written_kind, written_operand, written_length, written_all, same_true, true_same}
@@ -113,6 +112,10 @@ module _ (bytes : List ℕ) (b : Body) (sized : Sized bytes b) (rows : (j : ℕ)
       (λ inside. ⊎_elim (λ may. absurd (wrong (λ _. may))) (λ may_not. and_from _ _ inside (not_from_false _ may_not)) (cases_Bool (may_be_inner (length_of (row_in b)) (row_in b k))))
       (λ outside. absurd (wrong (λ i. absurd (both_ways _ outside (inner_complete (row_in b) b.count (lower_rows b rows) i)))))
       (cases_Bool (is_inner (row_in b) b.count k)))
+
+  not_both : (x y : Bool) → (x ≡ true → y ≡ true) → (x && not y) ≡ false
+  not_both true y h = ap not (h refl)
+  not_both false y h = refl
 
   pub none_inner : (k : ℕ) → InnerFits b k → inner_fault b.count (row_in b) k ≡ None
   none_inner k fits = cond-false _ _ _ (not_both _ _ (λ t. fits (inner_sound (row_in b) b.count k t)))

@@ -26,63 +26,16 @@ length_of_is row k = get_or_push (lengths_of row k) _ 0 k (length_lengths row k)
 pub row_in_below : (b : Body) (k : ℕ) → k < b.count → row_in b k ≡ get_or (kinds (p_in b k) (q_in b k) (r_in b k)) (kind_in b k) Always
 row_in_below b k h = cond-true _ _ _ (lt-ltb k b.count h)
 
--- what read_row answers at row k, as the row is taken for `row`
-abbrev Answered : Body → ℕ → Row → Result Row Refusal → Type 0
-Answered b k row o = o ≡ cond (leb 8 (kind_in b k)) (Err Kind) (cond (operands_right b.facts k row (operands_in b k)) (Ok row) (Err Operand))
-
-at_row_in : (b : Body) (k : ℕ) → k < b.count → (o : Result Row Refusal) → Answered b k (get_or (kinds (p_in b k) (q_in b k) (r_in b k)) (kind_in b k) Always) o → Answered b k (row_in b k) o
-at_row_in b k h o = subst (λ row. Answered b k row o) (sym (row_in_below b k h))
-
-choice_refused : (x y z : Bool) (row : Row) (r : Refusal) → Err r ≡ cond x (Err Kind) (cond y (Ok row) (Err Operand)) → cond x (Some Kind) (cond y (cond z None (Some Length)) (Some Operand)) ≡ Some r
-choice_refused true y z row r h = cc
-choice_refused false true z row r h = absurd (let e : ◌≡◌ {A = ℕ} 0 1 = cc in omega arith)
-choice_refused false false z row r h = cc
-
-pub read_refused : (b : Body) (k : ℕ) (r : Refusal) → k < b.count → Answered b k (get_or (kinds (p_in b k) (q_in b k) (r_in b k)) (kind_in b k) Always) (Err r) → row_fault b k ≡ Some r
-read_refused b k r h a = choice_refused (leb 8 (kind_in b k)) (operands_right b.facts k (row_in b k) (operands_in b k)) (leb (length_of (row_in b) k) 255) (row_in b k) r (at_row_in b k h (Err r) a)
-
-choice_read : (x y : Bool) (row got : Row) → Ok got ≡ cond x (Err Kind) (cond y (Ok row) (Err Operand)) → (x ≡ false) × (y ≡ true) × (got ≡ row)
-choice_read true y row got h = absurd (let e : ◌≡◌ {A = ℕ} 0 1 = cc in omega arith)
-choice_read false true row got h = (refl, refl, cc)
-choice_read false false row got h = absurd (let e : ◌≡◌ {A = ℕ} 0 1 = cc in omega arith)
-
--- a row that was read: its kind and operands are right, and it is the one that the bytes have
-pub record Got (b : Body) (k : ℕ) (row : Row) : Type 0 where
-  pub kind : leb 8 (kind_in b k) ≡ false
-  pub operands : operands_right b.facts k (row_in b k) (operands_in b k) ≡ true
-  pub is : row ≡ row_in b k
-
-pub read_got : (b : Body) (k : ℕ) (row : Row) → k < b.count → Answered b k (get_or (kinds (p_in b k) (q_in b k) (r_in b k)) (kind_in b k) Always) (Ok row) → Got b k row
-read_got b k row h a = let e = choice_read (leb 8 (kind_in b k)) (operands_right b.facts k (row_in b k) (operands_in b k)) (row_in b k) row (at_row_in b k h (Ok row) a) in record { kind = e.0; operands = e.1; is = e.2 }
-
--- such a row reads facts that there are, and names only lower rows
+-- a row in range reads facts that there are, and names only lower rows
 pub range_facts : (facts k : ℕ) (row : Row) → in_range facts k row ≡ true → all_under facts (facts_of row) ≡ true
 range_facts facts k row h = (and_parts (all_under facts (facts_of row)) _ h).0
 
 pub range_lower : (facts k : ℕ) (row : Row) → in_range facts k row ≡ true → all_under k (named_by row) ≡ true
 range_lower facts k row h = (and_parts (all_under k (named_by row)) (window_right row) (and_parts (all_under facts (facts_of row)) _ h).1).0
 
-operands_lower : (facts k : ℕ) (row : Row) (given : List ℕ) → operands_right facts k row given ≡ true → all_under k (named_by row) ≡ true
-operands_lower facts k row given h = range_lower facts k row (and_parts (same (operands_of row) given) (in_range facts k row) h).1
-
-pub got_lower : (b : Body) (k : ℕ) (row : Row) → Got b k row → all_under k (named_by row) ≡ true
-got_lower b k row g = subst (λ x. all_under k (named_by x) ≡ true) (sym g.is) (operands_lower b.facts k (row_in b k) (operands_in b k) g.operands)
-
 -- the length by a table that has those of the lower rows
 pub length_by_table : (b : Body) (k : ℕ) (lens : List ℕ) (row : Row) → Measures b k lens → row ≡ row_in b k → row_length (λ i. get_or lens i 0) row ≡ length_of (row_in b) k
 length_by_table b k lens row m e = (λ i. row_length (λ j. m.entry j i) (e i)) ∙ sym (length_of_is (row_in b) k)
-
-fault_none : (x y z : Bool) → x ≡ false → y ≡ true → z ≡ true → cond x (Some Kind) (cond y (cond z None (Some Length)) (Some Operand)) ≡ None
-fault_none x y z p q r = cc
-
-fault_long : (x y z : Bool) → x ≡ false → y ≡ true → z ≡ false → cond x (Some Kind) (cond y (cond z None (Some Length)) (Some Operand)) ≡ Some Length
-fault_long x y z p q r = cc
-
-pub got_fine : (b : Body) (k : ℕ) (row : Row) → Got b k row → length_of (row_in b) k < 256 → row_fault b k ≡ None
-got_fine b k row g h = fault_none (leb 8 (kind_in b k)) (operands_right b.facts k (row_in b k) (operands_in b k)) (leb (length_of (row_in b) k) 255) g.kind g.operands (le-leb _ 255 (omega arith))
-
-pub got_long : (b : Body) (k : ℕ) (row : Row) → Got b k row → 256 ≤ length_of (row_in b) k → row_fault b k ≡ Some Length
-got_long b k row g h = fault_long (leb 8 (kind_in b k)) (operands_right b.facts k (row_in b k) (operands_in b k)) (leb (length_of (row_in b) k) 255) g.kind g.operands (lt-leb _ 255 (omega arith))
 
 -- what right sizes say
 pub sizes_say : (b : Body) → sizes_right b ≡ true → Sized (b.facts ∷ b.count ∷ b.rest) b
@@ -159,10 +112,3 @@ module _ (b : Body) (k : ℕ) (few : k < 32) where
     row = rows_step rows row s.size s.row is;
     lengths = lengths_step lens v s.lengths long;
   }
-
-cond_twice : (t : Bool) (x y : Row) → cond t (cond t x y) y ≡ cond t x y
-cond_twice true x y = refl
-cond_twice false x y = refl
-
-pub read_all : (b : Body) (rows : List Row) (lens : List ℕ) → Sofar b b.count rows lens → AllRead b rows lens
-read_all b rows lens s = record { fine = s.fine; size = s.size; row = λ j. s.row j ∙ cond_twice (ltb j b.count) _ Always; lengths = s.lengths }
