@@ -15,7 +15,7 @@ use Rattle.sheet.specs.Loading.{operands_right, row_fault, name_fault, inner_fau
 use Rattle.sheet.specs.Faults.{Faultless, Lowest}
 use Rattle.sheet.specs.Conditions.{RowRight}
 use Rattle.sheet.specs.Steps.{AllRead}
-use Rattle.sheet.specs.declared.table.Table.{Table}
+use Rattle.sheet.specs.declared.draft.Draft.{Draft}
 use Rattle.sheet.proofs.Reading.{range_lower, length_lengths, length_of_is, Sofar}
 use Rattle.sheet.proofs.Inner.{inner_complete}
 use Rattle.sheet.proofs.Writing.{same_true}
@@ -82,20 +82,20 @@ module _ (b : Body) (rows : List Row) (lens : List ℕ) (s : Sofar b b.count row
       (cases_lt j b.count)
       ∙ ap (λ row. length_of row j) (sym (fun_ext rows_read))
 
--- the table that was read
-module _ (b : Body) (t : Table) (a : AllRead b t) where
-  pub rows_are : row_at t.rows ≡ row_in b
+-- the draft that was read
+module _ (b : Body) (d : Draft) (a : AllRead b d) where
+  pub rows_are : row_at d.rows ≡ row_in b
   rows_are = fun_ext a.rows
 
-  pub taken_are : row_at (take b.count t.rows) ≡ row_in b
+  pub taken_are : row_at (take b.count d.rows) ≡ row_in b
   taken_are = fun_ext (λ j.
       ⊎_elim
-      (λ less. get_or-take b.count t.rows j Always less ∙ a.rows j)
-      (λ more. get_or_past (take b.count t.rows) j Always (omega (arith, length-take-le b.count t.rows (omega (arith, a.count, t.few, t.sized)))) ∙ sym (past_rows b j more))
+      (λ less. get_or-take b.count d.rows j Always less ∙ a.rows j)
+      (λ more. get_or_past (take b.count d.rows) j Always (omega (arith, length-take-le b.count d.rows (omega (arith, a.count, d.few, d.sized)))) ∙ sym (past_rows b j more))
       (cases_lt j b.count))
 
-  -- what the table says, said of the bytes
-  pub said_of_bytes : (P : ℕ → (ℕ → Row) → Type 0) → P t.count (row_at t.rows) → P b.count (row_in b)
+  -- what the draft says, said of the bytes
+  pub said_of_bytes : (P : ℕ → (ℕ → Row) → Type 0) → P d.count (row_at d.rows) → P b.count (row_in b)
   said_of_bytes P = subst₂ P a.count rows_are
 
   pub right : RowsRight b.facts b.count (row_in b)

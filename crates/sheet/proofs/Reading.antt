@@ -1,8 +1,10 @@
 -- How one row is read: what its fault is, and what its length is.
-use Rattle.std.proofs.Common.{◌≡◌, ℕ, zero, suc, ◌+◌, ◌*◌, ◌<◌, ◌≤◌, Bool, true, false, cond, ◌&&◌, eqb, ltb, leb, List, [], ◌∷◌, ◌++◌, length, get_or, set, replicate, Some, None, Ok, Err, Result, sym, refl, ap, ◌∙◌, subst, ⊎_elim, add-one, arith, below_more}
+use Rattle.std.proofs.Common.{◌≡◌, ℕ, zero, suc, ◌+◌, ◌*◌, ◌<◌, ◌≤◌, Bool, true, false, cond, ◌&&◌, eqb, ltb, leb, List, [], ◌∷◌, ◌++◌, length, get_or, set, replicate, Some, None, Ok, Err, Result, MatchResult, sym, refl, ap, ◌∙◌, subst, ⊎_elim, add-one, arith, below_more}
 use Rattle.std.proofs.lemmas.List.{length_push, length-set, get_or_push, get_or_append_left, get_or_past, get_or-set_same, get_or-set_other}
 use Rattle.std.proofs.lemmas.Bool.{lt-ltb, le-ltb, cond-true, cond-false, and_parts, le-leb, lt-leb, leb-true, eqb-true, cases_eq, cases_lt}
 use Rattle.std.proofs.lemmas.Bool.Decides.{nat_tests}
+use Rattle.std.specs.Result.{IsErrAnd, OkIff}
+use Rattle.std.proofs.lemmas.Result.{OkIff-at_ok, OkIff-at_err}
 use Rattle.refusal.specs.declared.Refusal.{Refusal}
 use Rattle.refusal.specs.declared.Refusal.TheVariants.{Kind, Operand, Length}
 use Rattle.sheet.specs.declared.row.Row.{Row}
@@ -52,6 +54,17 @@ sizes_say b h =
       few_rows = leb-true _ _ rows.1;
       all = eqb-true _ _ others.1;
     }
+
+-- what a result says, after its error was turned into another
+pub through_map_err : {T E D : Type 0} (P : T → Type 0) (Q : E → Type 0) (G : E → D → Type 0) (r : Result T E) (m : Result T D) →
+    MatchResult r P Q → MatchResult r (λ x. m ≡ Ok x) (λ e. IsErrAnd m (G e)) → MatchResult m P (λ d. (e : E) × Q e × G e d)
+through_map_err {E} P Q G (Ok x) m says turned = subst (λ o. MatchResult o P (λ d. (e : E) × Q e × G e d)) (sym turned) says
+through_map_err P Q G (Err e) (Ok x) says turned = absurd turned
+through_map_err P Q G (Err e) (Err d) says turned = (e, says, turned)
+
+pub cases_of_ok_iff : {T E : Type 0} (r : Result T E) (P : Type 0) (v : T) → OkIff r P v → MatchResult r (λ x. P × (x ≡ v)) (λ _. P → ⊥)
+cases_of_ok_iff {E} (Ok x) P v h = OkIff-at_ok {E = E} (Ok x) P v x h refl
+cases_of_ok_iff (Err e) P v h = OkIff-at_err (Err e) P v e h refl
 
 -- the first k rows are read into the tables
 pub record Sofar (b : Body) (k : ℕ) (rows : List Row) (lens : List ℕ) : Type 0 where

@@ -1,11 +1,11 @@
 -- What the parts of load promise to one another.
-use Rattle.std.specs.Prelude.{◌≡◌, ℕ, ◌<◌, List, length, Some, None, Ok, Err, Result, slice_index, slice_index_or}
+use Rattle.std.specs.Prelude.{◌≡◌, ℕ, ◌<◌, List, length, Some, None, Result, MatchResult, slice_index, slice_index_or}
 use Rattle.refusal.specs.declared.Refusal.{Refusal}
 use Rattle.sheet.specs.declared.body.Body.{Body as Taken}
 use Rattle.sheet.specs.declared.fault.Fault.{Fault}
 use Rattle.sheet.specs.declared.row.Row.{Row}
 use Rattle.sheet.specs.declared.row.Row.TheVariants.{Always}
-use Rattle.sheet.specs.declared.table.Table.{Table}
+use Rattle.sheet.specs.declared.draft.Draft.{Draft}
 use Rattle.sheet.specs.Rules.{lengths_of, length_of, row_at}
 use Rattle.sheet.specs.Bytes.{Body, body_of, row_in}
 use Rattle.sheet.specs.Loading.{row_fault}
@@ -29,15 +29,13 @@ pub record Measures (b : Body) (n : ℕ) (lens : List ℕ) : Type 0 where
 
 -- row k is read with its length, or refused by itself
 abbrev pub RowRead : Body → ℕ → Result (Row × ℕ) Refusal → Type 0
-RowRead b k (Ok x) = (row_fault b k ≡ None) × (x.0 ≡ row_in b k) × (x.1 ≡ length_of (row_in b) k)
-RowRead b k (Err r) = row_fault b k ≡ Some r
+RowRead b k r = MatchResult r (λ x. (row_fault b k ≡ None) × (x.0 ≡ row_in b k) × (x.1 ≡ length_of (row_in b) k)) (λ e. row_fault b k ≡ Some e)
 
 -- the rows are all read, or the lowest that is refused is named
-pub record AllRead (b : Body) (t : Table) : Type 0 where
+pub record AllRead (b : Body) (d : Draft) : Type 0 where
   pub fine : Faultless (row_fault b) b.count
-  pub count : t.count ≡ b.count
-  pub rows : (j : ℕ) → row_at t.rows j ≡ row_in b j
+  pub count : d.count ≡ b.count
+  pub rows : (j : ℕ) → row_at d.rows j ≡ row_in b j
 
-abbrev pub RowsRead : Body → Result Table Fault → Type 0
-RowsRead b (Ok t) = AllRead b t
-RowsRead b (Err f) = Lowest (row_fault b) b.count f.refusal f.row
+abbrev pub RowsRead : Body → Result Draft Fault → Type 0
+RowsRead b r = MatchResult r (AllRead b) (λ f. Lowest (row_fault b) b.count f.refusal f.row)

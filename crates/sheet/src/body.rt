@@ -3,10 +3,10 @@ ghost use Rattle.std.specs.Prelude.{◌≡◌, ◌<◌, true, false, MatchResult
 ghost use Rattle.refusal.specs.declared.Refusal.TheVariants.{Sizes};
 ghost use Rattle.sheet.specs.Bytes.{body_of, sizes_right};
 
+use crate::draft::Draft;
 use crate::fault::Fault;
 use crate::placed::Placed;
 use crate::row::Row;
-use crate::table::Table;
 use refusal::Refusal;
 
 // The sizes, and all that comes after them. The sizes are in their bounds, and fit what comes after.
@@ -59,28 +59,24 @@ impl<'a> Body<'a> {
         ensures { RowRead (body_in self.now) k result }
     {
         let placed = self.row(k)?;
-        match u8::try_from(placed.length(lengths)) {
-            Ok(length) => Ok((placed.row, length)),
-            Err(_) => Err(Refusal::Length),
-        }
+        let length = u8::try_from(placed.length(lengths)).map_err(|_| Refusal::Length)?;
+        Ok((placed.row, length))
     }
 
     // Every row with its length, or the lowest that is refused.
-    pub(crate) fn table(&self) -> Result<Table, Fault>
+    pub(crate) fn draft(&self) -> Result<Draft, Fault>
         ensures { RowsRead (body_in self.now) result }
     {
         let mut rows = [Row::Always; 32];
         let mut lengths = [0; 32];
         for k in 0..self.count {
-            match self.row_and_length(k, &lengths) {
-                Ok((row, length)) => {
-                    rows[k as usize] = row;
-                    lengths[k as usize] = length;
-                }
-                Err(refusal) => return Err(Fault::new(refusal, k)),
-            }
+            let (row, length) = self
+                .row_and_length(k, &lengths)
+                .map_err(|refusal| Fault::new(refusal, k))?;
+            rows[k as usize] = row;
+            lengths[k as usize] = length;
         }
-        Ok(Table {
+        Ok(Draft {
             count: self.count,
             rows,
             lengths,

@@ -3,8 +3,8 @@
 
 mod body;
 pub mod check;
+mod draft;
 pub mod fault;
 mod placed;
 pub mod record;
 pub mod row;
-mod table;

@@ -17,18 +17,18 @@ impl Body<'_> {
     fn sheet(&self) -> Result<Sheet, Fault>
         ensures { judged_as result ≡ judged (body_in self.now) }
     {
-        let table = self.table()?;
-        if let Some(row) = table.first_unnamed() {
+        let draft = self.draft()?;
+        if let Some(row) = draft.first_unnamed() {
             return Err(Fault::new(Refusal::Unnamed, row));
         }
-        if let Some(row) = table.first_wrong_inner() {
+        if let Some(row) = draft.first_wrong_inner() {
             return Err(Fault::new(Refusal::Inner, row));
         }
         Ok(Sheet {
             facts: self.facts,
             count: self.count,
-            rows: table.rows,
-            lengths: table.lengths,
+            rows: draft.rows,
+            lengths: draft.lengths,
         })
     }
 }

@@ -1,7 +1,7 @@
 use Rattle.std.proofs.Common.{◌≡◌, ℕ, false, slice_index_or}
 use Rattle.sheet.specs.Rules.{row_at}
 use Rattle.sheet.specs.Loading.{inner_from, is_inner}
-use Rattle.sheet.proofs.table.Table.inner.Given as goal
+use Rattle.sheet.proofs.draft.Draft.inner.Given as goal
 
 -- what is raised by now and by the rows below k are the inner rows
 abbrev pub invariant-loop-k : goal.invariant-loop-k

@@ -4,7 +4,7 @@ use Rattle.sheet.specs.Rules.{row_at}
 use Rattle.sheet.specs.Loading.{inner_from}
 use Rattle.sheet.proofs.Reading.{getD_same}
 use Rattle.sheet.proofs.Inner.{inner_more}
-use Rattle.sheet.proofs.table.Table.inner.Goals as goal
+use Rattle.sheet.proofs.draft.Draft.inner.Goals as goal
 
 pub loop-k-init : goal.loop-k-init
 loop-k-init c = λ j. ap (λ f. inner_from (row_at c.args.self.now.rows) c.args.self.now.count f j) (fun_ext (λ k. getD_same 32 k false))

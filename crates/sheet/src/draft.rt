@@ -1,4 +1,4 @@
-// The rows of a sheet with their lengths, each right by itself, and what they are refused for together.
+// A sheet whose rows are right each by itself, and what they are refused for together.
 ghost use Rattle.std.specs.Prelude.{◌≡◌, ℕ, ◌-◌, ◌<◌, ◌≤◌, true, false, MatchOption, length, slice_index, slice_index_or};
 ghost use Rattle.refusal.specs.declared.Refusal.TheVariants.{Unnamed, Inner};
 ghost use Rattle.sheet.specs.Rows.{facts_of, named_by};
@@ -8,7 +8,7 @@ use crate::placed::Placed;
 use crate::row::Row;
 
 #[derive(Drop)]
-pub(crate) struct Table {
+pub(crate) struct Draft {
     pub(crate) count: u8,
     pub(crate) rows: [Row; 32],
     pub(crate) lengths: [u8; 32],
@@ -21,7 +21,7 @@ pub(crate) struct Table {
     ghost measured: { (k : ℕ) → slice_index lengths k ≡ length_of (row_at rows) k },
 }
 
-impl Table {
+impl Draft {
     ghost use Rattle.sheet.specs.Rules.{named};
     ghost use Rattle.sheet.specs.Loading.{name_fault, inner_fault, is_inner};
     ghost use Rattle.sheet.specs.Faults.{Faultless, Lowest};

@@ -1,6 +1,6 @@
 use Rattle.std.proofs.Common.{◌≡◌, ℕ, false, slice_index_or}
 use Rattle.sheet.specs.Rules.{named, row_at}
-use Rattle.sheet.proofs.table.Table.named.Given as goal
+use Rattle.sheet.proofs.draft.Draft.named.Given as goal
 
 -- the flags are those of the rows that a row so far names
 abbrev pub invariant-loop-k : goal.invariant-loop-k
