@@ -25,10 +25,8 @@ impl<'a> Body<'a> {
     pub(crate) fn new(facts: u8, count: u8, rest: &'a [u8]) -> Result<Body<'a>, Fault>
         ensures { MatchResult result (λ body. body_in body ≡ body_of facts count rest.now) (λ f. (sizes_right (body_of facts count rest.now) ≡ false) × (f ≡ record { refusal = Sizes; row = 0 })) }
     {
-        if 1 <= facts
-            && facts <= 16
-            && 1 <= count
-            && count <= 32
+        if (1..=16).contains(&facts)
+            && (1..=32).contains(&count)
             && rest.len() == 4 * count as usize
         {
             Ok(Body { facts, count, rest })
