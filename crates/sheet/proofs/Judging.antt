@@ -2,6 +2,7 @@
 use Rattle.std.proofs.Common.{◌≡◌, ℕ, zero, suc, ◌+◌, ◌-◌, ◌<◌, ◌≤◌, Bool, true, false, cond, not, ◌&&◌, leb, ltb, List, [], ◌∷◌, length, get_or, take, drop, Some, None, Option, sym, refl, ap, ◌∙◌, subst, subst₂, ⊎_elim, add-zero, arith}
 use mathlib.Core.Path.{fun_ext}
 use Rattle.std.proofs.lemmas.List.{get_or_append_left, get_or_past, get_or-take, length-take-le, take_all, ext_get_or}
+use Rattle.std.proofs.lemmas.Bool.Decides.{nat_tests}
 use Rattle.std.proofs.lemmas.Bool.{cases_eq, cases_lt, cond-true, cond-false, le-ltb, and_parts, leb-true, leb-false}
 use Rattle.refusal.specs.declared.Refusal.{Refusal}
 use Rattle.refusal.specs.declared.Refusal.TheVariants.{Kind, Operand, Length, Unnamed, Inner}
@@ -18,7 +19,7 @@ use Rattle.sheet.specs.Steps.{AllRead}
 use Rattle.sheet.specs.declared.draft.Draft.{Draft}
 use Rattle.sheet.proofs.Reading.{range_lower, length_lengths, length_of_is, Sofar}
 use Rattle.sheet.proofs.Inner.{inner_complete}
-use Rattle.sheet.proofs.Writing.{same_true}
+use Rattle.sheet.proofs.Writing.{operands_fit}
 
 module _ (fault : ℕ → Option Refusal) where
   pub lowest_none : (n : ℕ) (next : Verdict) → Faultless fault n → or_lowest fault n next ≡ next
@@ -34,17 +35,10 @@ module _ (fault : ℕ → Option Refusal) where
       (cases_eq k n)
 
 -- what a row without a fault of its own keeps
-choice_none : (x y z : Bool) → cond x (Some Kind) (cond y (cond z None (Some Length)) (Some Operand)) ≡ None → (x ≡ false) × (y ≡ true) × (z ≡ true)
-choice_none true y z h = absurd (let e : ◌≡◌ {A = ℕ} 0 1 = cc in omega arith)
-choice_none false true true h = (refl, refl, refl)
-choice_none false true false h = absurd (let e : ◌≡◌ {A = ℕ} 0 1 = cc in omega arith)
-choice_none false false z h = absurd (let e : ◌≡◌ {A = ℕ} 0 1 = cc in omega arith)
-
 pub row_right : (b : Body) (k : ℕ) → row_fault b k ≡ None → RowRight b k
 row_right b k h =
-    let parts = choice_none (leb 8 (kind_in b k)) (operands_right b.facts k (row_in b k) (operands_in b k)) (leb (length_of (row_in b) k) 255) h in
-    let operands = and_parts (same (operands_of (row_in b k)) (operands_in b k)) (in_range b.facts k (row_in b k)) parts.1 in
-    record { kind = leb-false 8 _ parts.0; operands = (same_true _ _ operands.0, operands.1); short = leb-true _ 255 parts.2 }
+    let operands : operands_right b.facts k (row_in b k) (operands_in b k) ≡ true = grind (arith, nat_tests) in
+    record { kind = grind (arith, nat_tests); operands = operands_fit b k operands; short = grind (arith, nat_tests) }
 
 pub lower_rows : (b : Body) → ((j : ℕ) → j < b.count → RowRight b j) → (k : ℕ) → k < b.count → all_under k (named_by (row_in b k)) ≡ true
 lower_rows b rows k h = range_lower b.facts k (row_in b k) (rows k h).operands.1
@@ -59,11 +53,10 @@ lengths_prefix row (suc n) j h =
     (cases_eq j n)
 
 cond_twice : (t : Bool) (x y : Row) → cond t (cond t x y) y ≡ cond t x y
-cond_twice true x y = refl
-cond_twice false x y = refl
+cond_twice t x y = grind arith
 
 pub past_rows : (b : Body) (j : ℕ) → b.count ≤ j → row_in b j ≡ Always
-past_rows b j h = cond-false _ _ _ (le-ltb j b.count h)
+past_rows b j h = grind (arith, nat_tests)
 
 -- the tables as all rows are read into them
 module _ (b : Body) (rows : List Row) (lens : List ℕ) (s : Sofar b b.count rows lens) where
@@ -105,16 +98,13 @@ module _ (b : Body) (d : Draft) (a : AllRead b d) where
   short k h = (row_right b k (a.fine k h)).short
 
 pub name_fine : (t : Bool) → cond t None (Some Unnamed) ≡ None → t ≡ true
-name_fine true h = refl
-name_fine false h = absurd (let e : ◌≡◌ {A = ℕ} 0 1 = cc in omega arith)
+name_fine t h = grind arith
 
 pub all_named : (row : ℕ → Row) (count : ℕ) → Faultless (name_fault count row) (count - 1) → RowsNamed count row
 all_named row count h k lt = name_fine (named row count k) (h k (omega arith))
 
 pub inner_fine_says : (t u : Bool) → cond (t && not u) (Some Inner) None ≡ None → t ≡ true → u ≡ true
-inner_fine_says true true h e = refl
-inner_fine_says true false h e = absurd (let z : ◌≡◌ {A = ℕ} 0 1 = cc in omega arith)
-inner_fine_says false u h e = absurd (let z : ◌≡◌ {A = ℕ} 0 1 = cc in omega arith)
+inner_fine_says t u h e = grind arith
 
 pub inner_right : (row : ℕ → Row) (count : ℕ) → ((k : ℕ) → k < count → all_under k (named_by (row k)) ≡ true) → Faultless (inner_fault count row) count → InnerRight count row
 inner_right row count lower h k lt i = inner_fine_says (is_inner row count k) (may_be_inner (length_of row) (row k)) (h k lt) (inner_complete row count lower i)

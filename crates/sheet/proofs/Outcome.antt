@@ -3,6 +3,7 @@ use Rattle.std.proofs.Common.{◌≡◌, ℕ, zero, suc, ◌+◌, ◌-◌, ◌*�
 use mathlib.Core.Path.{fun_ext}
 use Rattle.std.specs.List.{flat_map}
 use Rattle.std.proofs.lemmas.List.{get_or_past, ext_get_or}
+use Rattle.std.proofs.lemmas.Bool.Decides.{nat_tests}
 use Rattle.std.proofs.lemmas.Bool.{and_from, and_parts, le-leb, lt-leb, leb-true, leb-false, eq-eqb, cases_Bool, cases_lt, cases_eq, both_ways, cond-true, cond-false, not_from_false, not-true}
 use Rattle.refusal.specs.declared.Refusal.{Refusal}
 use Rattle.refusal.specs.declared.Refusal.TheVariants.{Sizes, Kind, Operand, Length, Unnamed, Inner, ShortLog, BrokenStrip, TakeComplete, ShortChart, UnequalStrips, Place}
@@ -18,40 +19,32 @@ use Rattle.sheet.specs.Conditions.{Sized, KindRight, OperandsRight, LengthRight,
 use Rattle.sheet.proofs.Reading.{sizes_say, row_in_below}
 use Rattle.sheet.proofs.Inner.{inner_sound, inner_complete}
 use Rattle.sheet.proofs.Judging.{row_right, lower_rows, past_rows, name_fine, inner_fine_says, all_named, inner_right, length_rows, row_from, rows_again, judged_row, judged_name, judged_inner, judged_sheet}
-use Rattle.sheet.proofs.Writing.{three_operands, read_back, kind_below, kind_back, written_kind, written_operand, written_length, written_all, same_true, true_same}
+use Rattle.sheet.proofs.Writing.{three_operands, read_back, kind_below, kind_back, written_kind, written_operand, written_length, written_all, operands_fit, fit_operands}
 
 -- The tests of the definition against the words of the conditions, for row k.
 
 pub sizes_from : (bytes : List ℕ) (b : Body) → Sized bytes b → sizes_right b ≡ true
-sizes_from bytes b s =
-    and_from _ _ (and_from _ _ (le-leb 1 _ s.some_fact) (le-leb _ 16 s.few_facts))
-    (and_from _ _ (and_from _ _ (le-leb 1 _ s.some_row) (le-leb _ 32 s.few_rows)) (eq-eqb _ _ s.all))
+sizes_from bytes b s = grind (arith, nat_tests, s.some_fact, s.few_facts, s.some_row, s.few_rows, s.all)
 
 some_is : {r x : Refusal} → Some r ≡ Some x → r ≡ x
 some_is h = cc
 
 none_some : {r : Refusal} → None ≡ Some r → ⊥
-none_some h = let e : ◌≡◌ {A = ℕ} 0 1 = cc in omega arith
+none_some h = cc
 
 module _ (b : Body) (k : ℕ) where
-  operands_test : operands_right b.facts k (row_in b k) (operands_in b k) ≡ true → OperandsRight b k
-  operands_test h = let both = and_parts (same (operands_of (row_in b k)) (operands_in b k)) (in_range b.facts k (row_in b k)) h in (same_true _ _ both.0, both.1)
-
-  test_operands : OperandsRight b k → operands_right b.facts k (row_in b k) (operands_in b k) ≡ true
-  test_operands h = and_from (same (operands_of (row_in b k)) (operands_in b k)) (in_range b.facts k (row_in b k)) (subst (λ given. same (operands_of (row_in b k)) given ≡ true) h.0 (true_same (operands_of (row_in b k)))) h.1
-
   pub right_row : RowRight b k → row_fault b k ≡ None
-  right_row r = cond-false _ _ _ (lt-leb 8 _ r.kind) ∙ cond-true _ _ _ (test_operands r.operands) ∙ cond-true _ _ _ (le-leb _ 255 r.short)
+  right_row r = cond-false _ _ _ (lt-leb 8 _ r.kind) ∙ cond-true _ _ _ (fit_operands b k r.operands) ∙ cond-true _ _ _ (le-leb _ 255 r.short)
 
   pub fault_kind : (KindRight b k → ⊥) → row_fault b k ≡ Some Kind
   fault_kind wrong = cond-true _ _ _ (le-leb 8 (kind_in b k) (⊎_elim (λ less. absurd (wrong less)) (λ h. h) (cases_lt (kind_in b k) 8)))
 
   pub fault_operand : KindRight b k → (OperandsRight b k → ⊥) → row_fault b k ≡ Some Operand
-  fault_operand kind wrong = cond-false _ _ _ (lt-leb 8 _ kind) ∙ cond-false _ _ _ (⊎_elim (λ t. absurd (wrong (operands_test t))) (λ f. f) (cases_Bool (operands_right b.facts k (row_in b k) (operands_in b k))))
+  fault_operand kind wrong = cond-false _ _ _ (lt-leb 8 _ kind) ∙ cond-false _ _ _ (⊎_elim (λ t. absurd (wrong (operands_fit b k t))) (λ f. f) (cases_Bool (operands_right b.facts k (row_in b k) (operands_in b k))))
 
   pub fault_length : KindRight b k → OperandsRight b k → (LengthRight b k → ⊥) → row_fault b k ≡ Some Length
   fault_length kind operands wrong =
-      cond-false _ _ _ (lt-leb 8 _ kind) ∙ cond-true _ _ _ (test_operands operands)
+      cond-false _ _ _ (lt-leb 8 _ kind) ∙ cond-true _ _ _ (fit_operands b k operands)
       ∙ cond-false _ _ _ (⊎_elim (λ t. absurd (wrong (leb-true _ 255 t))) (λ f. f) (cases_Bool (leb (length_of (row_in b) k) 255)))
 
   -- which test failed
@@ -66,9 +59,9 @@ module _ (b : Body) (k : ℕ) where
         (λ f. let kind = leb-false 8 (kind_in b k) f in let h₁ = sym (cond-false _ _ _ f) ∙ h in ⊎_elim
         (λ t₂. let h₂ = sym (cond-true _ _ _ t₂) ∙ h₁ in ⊎_elim
         (λ t₃. absurd (none_some (sym (cond-true _ _ _ t₃) ∙ h₂)))
-        (λ f₃. subst (λ x. RefusedFor bytes x k) (some_is (sym (cond-false _ _ _ f₃) ∙ h₂)) (come, kind, operands_test t₂, λ short. omega (arith, leb-false _ 255 f₃, short)))
+        (λ f₃. subst (λ x. RefusedFor bytes x k) (some_is (sym (cond-false _ _ _ f₃) ∙ h₂)) (come, kind, operands_fit b k t₂, λ short. omega (arith, leb-false _ 255 f₃, short)))
         (cases_Bool (leb (length_of (row_in b) k) 255)))
-        (λ f₂. subst (λ x. RefusedFor bytes x k) (some_is (sym (cond-false _ _ _ f₂) ∙ h₁)) (come, kind, λ o. both_ways _ f₂ (test_operands o)))
+        (λ f₂. subst (λ x. RefusedFor bytes x k) (some_is (sym (cond-false _ _ _ f₂) ∙ h₁)) (come, kind, λ o. both_ways _ f₂ (fit_operands b k o)))
         (cases_Bool (operands_right b.facts k (row_in b k) (operands_in b k))))
         (cases_Bool (leb 8 (kind_in b k)))
 
@@ -114,8 +107,7 @@ module _ (bytes : List ℕ) (b : Body) (sized : Sized bytes b) (rows : (j : ℕ)
       (cases_Bool (is_inner (row_in b) b.count k)))
 
   not_both : (x y : Bool) → (x ≡ true → y ≡ true) → (x && not y) ≡ false
-  not_both true y h = ap not (h refl)
-  not_both false y h = refl
+  not_both x y h = grind arith
 
   pub none_inner : (k : ℕ) → InnerFits b k → inner_fault b.count (row_in b) k ≡ None
   none_inner k fits = cond-false _ _ _ (not_both _ _ (λ t. fits (inner_sound (row_in b) b.count k t)))

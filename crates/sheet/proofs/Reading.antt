@@ -3,6 +3,7 @@ use Rattle.std.proofs.Common.{◌≡◌, ℕ, zero, suc, ◌+◌, ◌*◌, ◌<�
 use Rattle.std.proofs.lemmas.List.{length_push, length-set, get_or_push, get_or_append_left, get_or_past, get_or-set_same, get_or-set_other}
 use Rattle.std.proofs.lemmas.Bool.{lt-ltb, le-ltb, cond-true, cond-false, and_parts, le-leb, lt-leb, leb-true, eqb-true, cases_eq, cases_lt}
 use Rattle.std.proofs.lemmas.Bool.Decides.{nat_tests}
+use Rattle.std.proofs.lemmas.Grind.{common_steps}
 use Rattle.std.specs.Result.{IsErrAnd, OkIff}
 use Rattle.std.proofs.lemmas.Result.{OkIff-at_ok, OkIff-at_err}
 use Rattle.refusal.specs.declared.Refusal.{Refusal}
@@ -26,14 +27,14 @@ pub length_of_is : (row : ℕ → Row) (k : ℕ) → length_of row k ≡ row_len
 length_of_is row k = get_or_push (lengths_of row k) _ 0 k (length_lengths row k)
 
 pub row_in_below : (b : Body) (k : ℕ) → k < b.count → row_in b k ≡ get_or (kinds (p_in b k) (q_in b k) (r_in b k)) (kind_in b k) Always
-row_in_below b k h = cond-true _ _ _ (lt-ltb k b.count h)
+row_in_below b k h = grind (arith, nat_tests)
 
 -- a row in range reads facts that there are, and names only lower rows
 pub range_facts : (facts k : ℕ) (row : Row) → in_range facts k row ≡ true → all_under facts (facts_of row) ≡ true
-range_facts facts k row h = (and_parts (all_under facts (facts_of row)) _ h).0
+range_facts facts k row h = grind arith
 
 pub range_lower : (facts k : ℕ) (row : Row) → in_range facts k row ≡ true → all_under k (named_by row) ≡ true
-range_lower facts k row h = (and_parts (all_under k (named_by row)) (window_right row) (and_parts (all_under facts (facts_of row)) _ h).1).0
+range_lower facts k row h = grind arith
 
 -- the length by a table that has those of the lower rows
 pub length_by_table : (b : Body) (k : ℕ) (lens : List ℕ) (row : Row) → Measures b k lens → row ≡ row_in b k → row_length (λ i. get_or lens i 0) row ≡ length_of (row_in b) k
@@ -41,19 +42,14 @@ length_by_table b k lens row m e = (λ i. row_length (λ j. m.entry j i) (e i)) 
 
 -- what right sizes say
 pub sizes_say : (b : Body) → sizes_right b ≡ true → Sized (b.facts ∷ b.count ∷ b.rest) b
-sizes_say b h =
-    let both = and_parts (leb 1 b.facts && leb b.facts 16) _ h in
-    let facts = and_parts (leb 1 b.facts) (leb b.facts 16) both.0 in
-    let others = and_parts (leb 1 b.count && leb b.count 32) (eqb (length b.rest) (4 * b.count)) both.1 in
-    let rows = and_parts (leb 1 b.count) (leb b.count 32) others.0 in
-    record {
-      whole = refl;
-      some_fact = leb-true _ _ facts.0;
-      few_facts = leb-true _ _ facts.1;
-      some_row = leb-true _ _ rows.0;
-      few_rows = leb-true _ _ rows.1;
-      all = eqb-true _ _ others.1;
-    }
+sizes_say b h = record {
+  whole = refl;
+  some_fact = grind (arith, nat_tests);
+  few_facts = grind (arith, nat_tests);
+  some_row = grind (arith, nat_tests);
+  few_rows = grind (arith, nat_tests);
+  all = grind (arith, nat_tests);
+}
 
 -- what a result says, after its error was turned into another
 pub through_map_err : {T E D : Type 0} (P : T → Type 0) (Q : E → Type 0) (G : E → D → Type 0) (r : Result T E) (m : Result T D) →
@@ -74,9 +70,7 @@ pub record Sofar (b : Body) (k : ℕ) (rows : List Row) (lens : List ℕ) : Type
   pub lengths : Measures b k lens
 
 pub getD_same : {X : Type 0} (n j : ℕ) (x : X) → get_or (replicate n x) j x ≡ x
-getD_same zero j x = refl
-getD_same (suc n) zero x = refl
-getD_same (suc n) (suc j) x = getD_same n j x
+getD_same n j x = grind (arith, common_steps)
 
 pub read_none : (b : Body) → Sofar b 0 (replicate 32 Always) (replicate 32 0)
 read_none b = record {
@@ -98,11 +92,7 @@ module _ (b : Body) (k : ℕ) (few : k < 32) where
       (cases_eq j k)
 
   push_other : (lower : List ℕ) (v j : ℕ) → length lower ≡ k → (j ≡ k → ⊥) → get_or lower j 0 ≡ get_or (lower ++ v ∷ []) j 0
-  push_other lower v j size other =
-      ⊎_elim
-      (λ less. sym (get_or_append_left lower (v ∷ []) 0 j (omega arith)))
-      (λ more. get_or_past lower j 0 (omega arith) ∙ sym (get_or_past (lower ++ v ∷ []) j 0 (omega (arith, length_push lower v))))
-      (cases_lt j k)
+  push_other lower v j size other = grind (arith, common_steps)
 
   lengths_step : (lens : List ℕ) (v : ℕ) → Measures b k lens → v ≡ length_of (row_in b) k → Measures b (k + 1) (set lens k v)
   lengths_step lens v m e =

@@ -1,6 +1,7 @@
 -- The sweep raises exactly the flags of the facts that chains of naming reach.
 use Rattle.std.proofs.Common.{◌≡◌, ℕ, suc, ◌-◌, ◌<◌, ◌≤◌, Bool, true, false, cond, not, ◌&&◌, ◌||◌, ◌⊎◌, List, length, get_or, take, set, replicate, Decides, sym, refl, ap, ◌∙◌, subst, inl, inr, ⊎_elim, arith}
 use Rattle.std.proofs.lemmas.List.{get_or-take, length-take-le, get_or-set_same, get_or-set_other}
+use Rattle.std.proofs.lemmas.Bool.Decides.{nat_tests}
 use Rattle.std.proofs.lemmas.Bool.{or_cases, or_left, or_right, and_parts, and_from, cases_eq, cases_Bool, both_ways, false≢true, cond-true, cond-false}
 use Rattle.sheet.specs.declared.row.Row.{Row}
 use Rattle.sheet.specs.declared.row.Row.TheVariants.{Always, Hold, HoldOff, Both, Either, Not, Then, Within}
@@ -49,14 +50,7 @@ on_after true true = refl
 
 -- a row that turns and names a row is a not of it
 pub turning_names : (r : Row) (k : ℕ) → turns r ≡ true → has (named_by r) k ≡ true → r ≡ Not k
-turning_names Always k t h = absurd (false≢true t)
-turning_names (Hold duration fact) k t h = absurd (false≢true t)
-turning_names (HoldOff duration fact) k t h = absurd (false≢true h)
-turning_names (Both left right) k t h = absurd (false≢true t)
-turning_names (Either left right) k t h = absurd (false≢true t)
-turning_names (Not row) k t h = ap Not (only row k h)
-turning_names (Then left right) k t h = absurd (false≢true t)
-turning_names (Within from to row) k t h = absurd (false≢true t)
+turning_names r k t h = grind (arith, nat_tests)
 
 -- so a row that names another and is no not of it does not turn
 pub straight : (r : Row) (k : ℕ) → has (named_by r) k ≡ true → (r ≡ Not k → ⊥) → turns r ≡ false

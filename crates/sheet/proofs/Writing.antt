@@ -1,14 +1,17 @@
 -- Rows written as bytes and read from them are the same rows, both ways.
-use Rattle.std.proofs.Common.{◌≡◌, ℕ, zero, suc, ◌+◌, ◌-◌, ◌*◌, ◌/◌, ◌%◌, ◌<◌, true, eqb, List, [], ◌∷◌, ◌++◌, map, length, get_or, sym, refl, ap, ◌∙◌, ⊎_elim, arith}
+use Rattle.std.proofs.Common.{◌≡◌, ℕ, zero, suc, ◌+◌, ◌-◌, ◌*◌, ◌/◌, ◌%◌, ◌<◌, true, List, [], ◌∷◌, ◌++◌, map, length, get_or, sym, refl, ap, ◌∙◌, subst, ⊎_elim, arith}
 use Rattle.std.specs.List.{flat_map}
 use Rattle.std.proofs.lemmas.List.{length-append, length-map, get_or_append_left, get_or-append_right, get_or-map, ext_get_or}
-use Rattle.std.proofs.lemmas.Bool.{and_parts, eqb-true, eq-eqb, and_from, cases_lt}
+use Rattle.std.proofs.lemmas.Bool.{and_parts, and_from, cases_lt}
+use Rattle.std.proofs.lemmas.Bool.Decides.{nat_tests}
+use Rattle.std.proofs.lemmas.Grind.{common_steps}
 use Rattle.sheet.specs.declared.row.Row.{Row}
 use Rattle.sheet.specs.declared.row.Row.TheVariants.{Always, Hold, HoldOff, Both, Either, Not, Then, Within}
 use Rattle.sheet.specs.Rows.{kind_of, operands_of}
-use Rattle.sheet.specs.Rules.{row_at}
-use Rattle.sheet.specs.Bytes.{kinds}
-use Rattle.sheet.specs.Loading.{same}
+use Rattle.sheet.specs.Rules.{row_at, in_range}
+use Rattle.sheet.specs.Bytes.{Body, operands_in, kinds, row_in}
+use Rattle.sheet.specs.Loading.{same, operands_right}
+use Rattle.sheet.specs.Conditions.{OperandsRight}
 
 pub three_operands : (row : Row) → length (operands_of row) ≡ 3
 three_operands Always = refl
@@ -43,15 +46,7 @@ kind_below (Within from to row) = omega arith
 
 -- and a row that was read has the kind that it was read by
 pub kind_back : (p q r kind : ℕ) → kind < 8 → kind_of (get_or (kinds p q r) kind Always) ≡ kind
-kind_back p q r zero h = refl
-kind_back p q r (suc zero) h = refl
-kind_back p q r (suc (suc zero)) h = refl
-kind_back p q r (suc (suc (suc zero))) h = refl
-kind_back p q r (suc (suc (suc (suc zero)))) h = refl
-kind_back p q r (suc (suc (suc (suc (suc zero))))) h = refl
-kind_back p q r (suc (suc (suc (suc (suc (suc zero)))))) h = refl
-kind_back p q r (suc (suc (suc (suc (suc (suc (suc zero))))))) h = refl
-kind_back p q r (suc (suc (suc (suc (suc (suc (suc (suc n)))))))) h = absurd (omega arith)
+kind_back p q r kind h = grind (arith, common_steps)
 
 pub length_joined : (rows : List Row) → length (flat_map operands_of rows) ≡ 3 * length rows
 length_joined [] = refl
@@ -93,12 +88,20 @@ module _ (rows : List Row) where
       ap (λ m. get_or (map kind_of rows ++ flat_map operands_of rows) m 0) (sym place) ∙ written_operand k i row third ∙ sym (operands-are k i row third) ∙ ap (λ m. get_or rest m 0) place)
       (cases_lt n (length rows)))
 
-pub same_true : (xs ys : List ℕ) → same xs ys ≡ true → xs ≡ ys
+same_true : (xs ys : List ℕ) → same xs ys ≡ true → xs ≡ ys
 same_true [] [] h = refl
-same_true [] (y ∷ ys) h = absurd (let e : ◌≡◌ {A = ℕ} 0 1 = cc in omega arith)
-same_true (x ∷ xs) [] h = absurd (let e : ◌≡◌ {A = ℕ} 0 1 = cc in omega arith)
-same_true (x ∷ xs) (y ∷ ys) h = let both = and_parts (eqb x y) (same xs ys) h in λ i. eqb-true x y both.0 i ∷ same_true xs ys both.1 i
+same_true [] (y ∷ ys) h = cc
+same_true (x ∷ xs) [] h = cc
+same_true (x ∷ xs) (y ∷ ys) h = grind (arith, nat_tests, same_true xs ys)
 
-pub true_same : (xs : List ℕ) → same xs xs ≡ true
+true_same : (xs : List ℕ) → same xs xs ≡ true
 true_same [] = refl
-true_same (x ∷ xs) = and_from (eqb x x) (same xs xs) (eq-eqb x x refl) (true_same xs)
+true_same (x ∷ xs) = grind (arith, nat_tests, true_same xs)
+
+-- the test of row k's operands, and what it says
+module _ (b : Body) (k : ℕ) where
+  pub operands_fit : operands_right b.facts k (row_in b k) (operands_in b k) ≡ true → OperandsRight b k
+  operands_fit h = let both = and_parts (same (operands_of (row_in b k)) (operands_in b k)) (in_range b.facts k (row_in b k)) h in (same_true _ _ both.0, both.1)
+
+  pub fit_operands : OperandsRight b k → operands_right b.facts k (row_in b k) (operands_in b k) ≡ true
+  fit_operands h = and_from (same (operands_of (row_in b k)) (operands_in b k)) (in_range b.facts k (row_in b k)) (subst (λ given. same (operands_of (row_in b k)) given ≡ true) h.0 (true_same (operands_of (row_in b k)))) h.1
