@@ -3,6 +3,7 @@ use Rattle.std.proofs.Common.{◌≡◌, ℕ, zero, suc, ◌+◌, ◌-◌, ◌<�
 use mathlib.Core.Path.{fun_ext}
 use Rattle.std.proofs.lemmas.List.{get_or_append_left, get_or_past, get_or-take, length-take-le, take_all, ext_get_or}
 use Rattle.std.proofs.lemmas.Bool.Decides.{nat_tests}
+use Rattle.std.proofs.lemmas.Grind.{common_steps}
 use Rattle.std.proofs.lemmas.Bool.{cases_eq, cases_lt, cond-true, cond-false, le-ltb, and_parts, leb-true, leb-false}
 use Rattle.refusal.specs.declared.Refusal.{Refusal}
 use Rattle.refusal.specs.declared.Refusal.TheVariants.{Kind, Operand, Length, Unnamed, Inner}
@@ -111,12 +112,11 @@ inner_right row count lower h k lt i = inner_fine_says (is_inner row count k) (m
 
 pub length_rows : (row : ℕ → Row) (k n : ℕ) → length (rows_from row k n) ≡ n
 length_rows row k zero = refl
-length_rows row k (suc n) = ap suc (length_rows row (suc k) n)
+length_rows row k (suc n) = grind (arith, length_rows row (suc k) n)
 
 pub row_from : (row : ℕ → Row) (k n i : ℕ) → i < n → get_or (rows_from row k n) i Always ≡ row (k + i)
-row_from row k zero i h = absurd (omega arith)
-row_from row k (suc n) zero h = ap row (sym (add-zero k))
-row_from row k (suc n) (suc i) h = row_from row (suc k) n i (omega arith) ∙ ap row (omega arith)
+row_from row k zero i h = grind arith
+row_from row k (suc n) i h = grind (arith, common_steps, row_from row (suc k) n)
 
 -- a list is the rows that it has
 pub rows_again : (rows : List Row) (row : ℕ → Row) (n : ℕ) → length rows ≡ n → ((i : ℕ) → i < n → get_or rows i Always ≡ row i) → rows_from row 0 n ≡ rows

@@ -4,6 +4,7 @@ use mathlib.Core.Path.{fun_ext}
 use Rattle.std.specs.List.{flat_map}
 use Rattle.std.proofs.lemmas.List.{get_or_past, ext_get_or}
 use Rattle.std.proofs.lemmas.Bool.Decides.{nat_tests}
+use Rattle.std.proofs.lemmas.Grind.{common_steps}
 use Rattle.std.proofs.lemmas.Bool.{and_from, and_parts, le-leb, lt-leb, leb-true, leb-false, eq-eqb, cases_Bool, cases_lt, cases_eq, both_ways, cond-true, cond-false, not_from_false, not-true}
 use Rattle.refusal.specs.declared.Refusal.{Refusal}
 use Rattle.refusal.specs.declared.Refusal.TheVariants.{Sizes, Kind, Operand, Length, Unnamed, Inner, ShortLog, BrokenStrip, TakeComplete, ShortChart, UnequalStrips, Place}
@@ -34,18 +35,18 @@ none_some h = cc
 
 module _ (b : Body) (k : ℕ) where
   pub right_row : RowRight b k → row_fault b k ≡ None
-  right_row r = cond-false _ _ _ (lt-leb 8 _ r.kind) ∙ cond-true _ _ _ (fit_operands b k r.operands) ∙ cond-true _ _ _ (le-leb _ 255 r.short)
+  right_row r = grind (arith, nat_tests, r.kind, fit_operands b k r.operands, r.short)
 
   pub fault_kind : (KindRight b k → ⊥) → row_fault b k ≡ Some Kind
-  fault_kind wrong = cond-true _ _ _ (le-leb 8 (kind_in b k) (⊎_elim (λ less. absurd (wrong less)) (λ h. h) (cases_lt (kind_in b k) 8)))
+  fault_kind wrong = grind (arith, nat_tests)
 
   pub fault_operand : KindRight b k → (OperandsRight b k → ⊥) → row_fault b k ≡ Some Operand
-  fault_operand kind wrong = cond-false _ _ _ (lt-leb 8 _ kind) ∙ cond-false _ _ _ (⊎_elim (λ t. absurd (wrong (operands_fit b k t))) (λ f. f) (cases_Bool (operands_right b.facts k (row_in b k) (operands_in b k))))
+  fault_operand kind wrong =
+      let unfit : operands_right b.facts k (row_in b k) (operands_in b k) ≡ true → ⊥ = λ t. wrong (operands_fit b k t) in
+      grind (arith, nat_tests)
 
   pub fault_length : KindRight b k → OperandsRight b k → (LengthRight b k → ⊥) → row_fault b k ≡ Some Length
-  fault_length kind operands wrong =
-      cond-false _ _ _ (lt-leb 8 _ kind) ∙ cond-true _ _ _ (fit_operands b k operands)
-      ∙ cond-false _ _ _ (⊎_elim (λ t. absurd (wrong (leb-true _ 255 t))) (λ f. f) (cases_Bool (leb (length_of (row_in b) k) 255)))
+  fault_length kind operands wrong = grind (arith, nat_tests, fit_operands b k operands)
 
   -- which test failed
   module _ (bytes : List ℕ) (sized : Sized bytes b) (among : k < b.count) (before : (j : ℕ) → j < k → RowRight b j) where
@@ -67,10 +68,7 @@ module _ (b : Body) (k : ℕ) where
 
   -- operand i of row k stands at its place
   operand_at : (i : ℕ) → i < 3 → get_or (operands_in b k) i 0 ≡ get_or b.rest (b.count + (3 * k + i)) 0
-  operand_at zero h = ap (λ n. get_or b.rest n 0) (omega arith)
-  operand_at (suc zero) h = ap (λ n. get_or b.rest n 0) (omega arith)
-  operand_at (suc (suc zero)) h = ap (λ n. get_or b.rest n 0) (omega arith)
-  operand_at (suc (suc (suc i))) h = absurd (omega arith)
+  operand_at i h = grind (arith, common_steps)
 
 -- The rows together.
 
@@ -259,13 +257,7 @@ refused_when bytes Place k h = absurd h
 
 -- a row's three operands, one by one
 three : (row : Row) → get_or (operands_of row) 0 0 ∷ get_or (operands_of row) 1 0 ∷ get_or (operands_of row) 2 0 ∷ [] ≡ operands_of row
-three row = ext_get_or 0 _ (operands_of row) (sym (three_operands row)) (λ i h. at i h)
-  where
-    at : (i : ℕ) → i < 3 → get_or (get_or (operands_of row) 0 0 ∷ get_or (operands_of row) 1 0 ∷ get_or (operands_of row) 2 0 ∷ []) i 0 ≡ get_or (operands_of row) i 0
-    at zero h = refl
-    at (suc zero) h = refl
-    at (suc (suc zero)) h = refl
-    at (suc (suc (suc i))) h = absurd (omega arith)
+three row = grind arith
 
 -- a sheet that keeps the rules is what its bytes come to
 module _ (w : Written) (keeps : Keeps w) where

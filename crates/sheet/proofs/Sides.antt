@@ -24,29 +24,14 @@ abbrev pub after : Row → Bool → Bool
 after row turned = turned_by (turns row) turned
 
 -- whether what is handed on from side p, turned or not, comes to side t
-on : (p t turned : Bool) → Bool
-on false false turned = not turned
-on false true turned = turned
-on true true turned = not turned
-on true false turned = turned
+abbrev on : (p t turned : Bool) → Bool
+on p t turned = cond (cond p t (not t)) (not turned) turned
 
 on_says : (p t turned : Bool) → on p t turned ≡ true → turned_by turned p ≡ t
-unfolding on
-on_says false false false h = refl
-on_says false false true h = absurd (false≢true h)
-on_says false true false h = absurd (false≢true h)
-on_says false true true h = refl
-on_says true true false h = refl
-on_says true true true h = absurd (false≢true h)
-on_says true false false h = absurd (false≢true h)
-on_says true false true h = refl
+on_says p t turned h = grind arith
 
 on_after : (p turned : Bool) → on p (turned_by turned p) turned ≡ true
-unfolding on
-on_after false false = refl
-on_after false true = refl
-on_after true false = refl
-on_after true true = refl
+on_after p turned = grind arith
 
 -- a row that turns and names a row is a not of it
 pub turning_names : (r : Row) (k : ℕ) → turns r ≡ true → has (named_by r) k ≡ true → r ≡ Not k
@@ -54,7 +39,7 @@ turning_names r k t h = grind (arith, nat_tests)
 
 -- so a row that names another and is no not of it does not turn
 pub straight : (r : Row) (k : ℕ) → has (named_by r) k ≡ true → (r ≡ Not k → ⊥) → turns r ≡ false
-straight r k h other = ⊎_elim (λ t. absurd (other (turning_names r k t h))) (λ f. f) (cases_Bool (turns r))
+straight r k h other = grind (arith, nat_tests)
 
 reading : (r : Row) (f : ℕ) → has (facts_of r) f ≡ true → ((d : ℕ) × (r ≡ Hold d f)) ⊎ ((d : ℕ) × (r ≡ HoldOff d f))
 reading Always f h = absurd (false≢true h)
