@@ -17,14 +17,8 @@ module _ (row : ℕ → Row) (count : ℕ) (lower : (k : ℕ) → k < count → 
       inner_settled m j (λ k. found k || passes (row m) (found m) k) (omega arith) (omega arith)
       ∙ ap (λ t. found j || t) (not_passed (found m)) ∙ or-false (found j)
     where
-      unnamed : has (named_by (row m)) j ≡ false
-      unnamed = has_under m j (named_by (row m)) (lower m few) (omega arith)
-
       not_passed : (inner : Bool) → passes (row m) inner j ≡ false
-      not_passed inner =
-          or_from (has (made_inner_by (row m)) j) (inner && has (named_by (row m)) j)
-          (⊎_elim (λ made. absurd (both_ways (has (named_by (row m)) j) unnamed (made_named (row m) j made))) (λ no. no) (cases_Bool (has (made_inner_by (row m)) j)))
-          (and_right inner (has (named_by (row m)) j) unnamed)
+      not_passed inner = let unnamed = has_under m j (named_by (row m)) (lower m few) (omega arith) in grind (arith, made_named (row m) j)
 
 module _ (row : ℕ → Row) (count : ℕ) where
   found_from : (n : ℕ) (found : ℕ → Bool) → n ≤ count → ((j : ℕ) → found j ≡ true → IsInner row count j) → (k : ℕ) → inner_from row n found k ≡ true → IsInner row count k
@@ -49,7 +43,7 @@ module _ (row : ℕ → Row) (count : ℕ) where
 
   kept : (n : ℕ) (found : ℕ → Bool) (k : ℕ) → found k ≡ true → inner_from row n found k ≡ true
   kept zero found k e = e
-  kept (suc m) found k e = kept m (λ j. found j || passes (row m) (found m) j) k (or_left (found k) (passes (row m) (found m) k) e)
+  kept (suc m) found k e = kept m (λ j. found j || passes (row m) (found m) j) k (grind arith)
 
   -- the sweep as it comes to row j
   stage : (n j : ℕ) (found : ℕ → Bool) → j < n → (f : ℕ → Bool) × (inner_from row n found ≡ inner_from row (suc j) f)

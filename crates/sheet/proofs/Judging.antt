@@ -31,7 +31,7 @@ module _ (fault : ℕ → Option Refusal) where
   lowest_found zero next r k l = absurd (omega (arith, l.among))
   lowest_found (suc n) next r k l =
       ⊎_elim
-      (λ same. lowest_none n (or_fault n (fault n) next) (λ j lt. l.before j (omega arith)) ∙ ap (λ o. or_fault n o next) (ap fault (sym same) ∙ l.here) ∙ ap (refused (number_of r)) (sym same))
+      (λ same. let here = ap fault (sym same) ∙ l.here in let none = lowest_none n (or_fault n (fault n) next) (λ j lt. l.before j (omega arith)) in grind (arith, none))
       (λ other. lowest_found n (or_fault n (fault n) next) r k (record { among = omega (arith, l.among, other); here = l.here; before = l.before }))
       (cases_eq k n)
 

@@ -1,5 +1,5 @@
 -- What the bytes come to, against the conditions in the subject's own words: each way, both ways round.
-use Rattle.std.proofs.Common.{◌≡◌, ℕ, zero, suc, ◌+◌, ◌-◌, ◌*◌, ◌<◌, ◌≤◌, Bool, true, false, not, ◌&&◌, leb, ◌⊎◌, List, [], ◌∷◌, ◌++◌, map, length, get_or, Some, None, Option, sym, refl, ap, ◌∙◌, subst, subst₂, inl, inr, ⊎_elim, arith}
+use Rattle.std.proofs.Common.{◌≡◌, ℕ, zero, suc, ◌+◌, ◌-◌, ◌*◌, ◌<◌, ◌≤◌, Bool, true, false, cond, not, ◌&&◌, leb, ◌⊎◌, List, [], ◌∷◌, ◌++◌, map, length, get_or, Some, None, Option, sym, refl, ap, ◌∙◌, subst, subst₂, inl, inr, ⊎_elim, arith}
 use mathlib.Core.Path.{fun_ext}
 use Rattle.std.specs.List.{flat_map}
 use Rattle.std.proofs.lemmas.List.{get_or_past, ext_get_or}
@@ -70,7 +70,16 @@ module _ (b : Body) (k : ℕ) where
   operand_at : (i : ℕ) → i < 3 → get_or (operands_in b k) i 0 ≡ get_or b.rest (b.count + (3 * k + i)) 0
   operand_at i h = grind (arith, common_steps)
 
--- The rows together.
+-- The rows together: what each test of them says.
+
+name_missing : (t : Bool) (r : Refusal) → cond t None (Some Unnamed) ≡ Some r → (t ≡ false) × (r ≡ Unnamed)
+name_missing t r h = (grind arith, grind arith)
+
+inner_wrong : (t u : Bool) (r : Refusal) → cond (t && not u) (Some Inner) None ≡ Some r → (t ≡ true) × (u ≡ false) × (r ≡ Inner)
+inner_wrong t u r h = (grind arith, grind arith, grind arith)
+
+inner_fine : (t u : Bool) → (t ≡ true → u ≡ true) → cond (t && not u) (Some Inner) None ≡ None
+inner_fine t u h = grind arith
 
 module _ (bytes : List ℕ) (b : Body) (sized : Sized bytes b) (rows : (j : ℕ) → j < b.count → RowRight b j) where
   all : AllRight bytes
@@ -81,22 +90,19 @@ module _ (bytes : List ℕ) (b : Body) (sized : Sized bytes b) (rows : (j : ℕ)
 
   pub why_name : (r : Refusal) (k : ℕ) → Lowest (name_fault b.count (row_in b)) (b.count - 1) r k → RefusedFor bytes r k
   unfolding all
-  why_name r k l = ⊎_elim
-      (λ t. absurd (none_some (sym (cond-true _ _ _ t) ∙ l.here)))
-      (λ f. subst (λ x. RefusedFor bytes x k) (some_is (sym (cond-false _ _ _ f) ∙ l.here)) (all, omega (arith, l.among), both_ways _ f, λ j lt. name_fine _ (l.before j lt)))
-      (cases_Bool (named (row_in b) b.count k))
+  why_name r k l =
+      let missing = name_missing (named (row_in b) b.count k) r l.here in
+      subst (λ x. RefusedFor bytes x k) (sym missing.1) (all, omega (arith, l.among), both_ways _ missing.0, λ j lt. name_fine _ (l.before j lt))
 
   inner_fits : (k : ℕ) → k < b.count → inner_fault b.count (row_in b) k ≡ None → InnerFits b k
   inner_fits k h e i = inner_fine_says (is_inner (row_in b) b.count k) (may_be_inner (length_of (row_in b)) (row_in b k)) e (inner_complete (row_in b) b.count (lower_rows b rows) i)
 
   pub why_inner : RowsNamed b.count (row_in b) → (r : Refusal) (k : ℕ) → Lowest (inner_fault b.count (row_in b)) b.count r k → RefusedFor bytes r k
   unfolding all
-  why_inner names r k l = ⊎_elim
-      (λ t. let both = and_parts (is_inner (row_in b) b.count k) (not (may_be_inner (length_of (row_in b)) (row_in b k))) t in
-      subst (λ x. RefusedFor bytes x k) (some_is (sym (cond-true _ _ _ t) ∙ l.here))
-      (all, names, l.among, (λ fits. both_ways _ (not-true _ both.1) (fits (inner_sound (row_in b) b.count k both.0))), λ j lt. inner_fits j (omega (arith, l.among)) (l.before j lt)))
-      (λ f. absurd (none_some (sym (cond-false _ _ _ f) ∙ l.here)))
-      (cases_Bool (is_inner (row_in b) b.count k && not (may_be_inner (length_of (row_in b)) (row_in b k))))
+  why_inner names r k l =
+      let wrong = inner_wrong (is_inner (row_in b) b.count k) (may_be_inner (length_of (row_in b)) (row_in b k)) r l.here in
+      subst (λ x. RefusedFor bytes x k) (sym wrong.2)
+      (all, names, l.among, (λ fits. both_ways _ wrong.1 (fits (inner_sound (row_in b) b.count k wrong.0))), λ j lt. inner_fits j (omega (arith, l.among)) (l.before j lt))
 
   pub fault_inner : (k : ℕ) → (InnerFits b k → ⊥) → inner_fault b.count (row_in b) k ≡ Some Inner
   fault_inner k wrong = cond-true _ _ _ (⊎_elim
@@ -104,11 +110,8 @@ module _ (bytes : List ℕ) (b : Body) (sized : Sized bytes b) (rows : (j : ℕ)
       (λ outside. absurd (wrong (λ i. absurd (both_ways _ outside (inner_complete (row_in b) b.count (lower_rows b rows) i)))))
       (cases_Bool (is_inner (row_in b) b.count k)))
 
-  not_both : (x y : Bool) → (x ≡ true → y ≡ true) → (x && not y) ≡ false
-  not_both x y h = grind arith
-
   pub none_inner : (k : ℕ) → InnerFits b k → inner_fault b.count (row_in b) k ≡ None
-  none_inner k fits = cond-false _ _ _ (not_both _ _ (λ t. fits (inner_sound (row_in b) b.count k t)))
+  none_inner k fits = inner_fine (is_inner (row_in b) b.count k) (may_be_inner (length_of (row_in b)) (row_in b k)) (λ t. fits (inner_sound (row_in b) b.count k t))
 
   -- where nothing is refused, the bytes are a sheet's
   abbrev rows_in : List Row

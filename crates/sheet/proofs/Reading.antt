@@ -80,17 +80,16 @@ read_none b = record {
   lengths = record { size = refl; entry = λ j. getD_same 32 j 0 };
 }
 
-ltb_step : (j k : ℕ) → (j ≡ k → ⊥) → ltb j k ≡ ltb j (k + 1)
-ltb_step j k h = grind (arith, nat_tests)
+-- one row more in the table of rows
+rows_step : (row : ℕ → Row) (k : ℕ) (rows : List Row) (r : Row) → k < 32 → length rows ≡ 32 → ((j : ℕ) → get_or rows j Always ≡ cond (ltb j k) (row j) Always) → r ≡ row k → (j : ℕ) → get_or (set rows k r) j Always ≡ cond (ltb j (k + 1)) (row j) Always
+rows_step row k rows r few size old e j =
+    let before = old j in
+    ⊎_elim
+    (λ here. grind (arith, nat_tests, common_steps))
+    (λ other. grind (arith, nat_tests, common_steps, get_or-set_other rows k j r Always other))
+    (cases_eq j k)
 
 module _ (b : Body) (k : ℕ) (few : k < 32) where
-  rows_step : (rows : List Row) (row : Row) → length rows ≡ 32 → ((j : ℕ) → get_or rows j Always ≡ cond (ltb j k) (row_in b j) Always) → row ≡ row_in b k → (j : ℕ) → get_or (set rows k row) j Always ≡ cond (ltb j (k + 1)) (row_in b j) Always
-  rows_step rows row size old e j =
-      ⊎_elim
-      (λ same. ap (λ i. get_or (set rows k row) i Always) same ∙ get_or-set_same rows k row Always (omega arith) ∙ e ∙ ap (row_in b) (sym same) ∙ sym (cond-true _ _ _ (lt-ltb j (k + 1) (omega arith))))
-      (λ other. get_or-set_other rows k j row Always other ∙ old j ∙ ap (λ t. cond t (row_in b j) Always) (ltb_step j k other))
-      (cases_eq j k)
-
   push_other : (lower : List ℕ) (v j : ℕ) → length lower ≡ k → (j ≡ k → ⊥) → get_or lower j 0 ≡ get_or (lower ++ v ∷ []) j 0
   push_other lower v j size other = grind (arith, common_steps)
 
@@ -112,6 +111,6 @@ module _ (b : Body) (k : ℕ) (few : k < 32) where
   read_more rows lens row v s none is long = record {
     fine = below_more _ _ s.fine none;
     size = length-set rows k row ∙ s.size;
-    row = rows_step rows row s.size s.row is;
+    row = rows_step (row_in b) k rows row few s.size s.row is;
     lengths = lengths_step lens v s.lengths long;
   }

@@ -92,7 +92,6 @@ Raises before after p reached turned names =
     × ((k : ℕ) → after (not p) k ≡ (before (not p) k || ((reached && turned) && has names k)))
 
 raised : (before after : Bool → ℕ → Bool) (p reached turned : Bool) (names : List ℕ) → Raises before after p reached turned names → (t : Bool) (k : ℕ) → after t k ≡ (before t k || ((reached && on p t turned) && has names k))
-unfolding on
 raised before after false reached turned names h false k = h.0 k
 raised before after false reached turned names h true k = h.1 k
 raised before after true reached turned names h true k = h.0 k
