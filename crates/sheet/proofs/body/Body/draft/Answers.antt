@@ -7,19 +7,9 @@ use Rattle.sheet.proofs.Reading.{Sofar, sizes_say, range_facts, range_lower, rea
 use Rattle.sheet.proofs.Has.{all_under_more}
 use Rattle.sheet.proofs.Judging.{rows_read, read_right, lengths_read}
 use Rattle.sheet.proofs.body.Body.draft.Goals as goal
-use Rattle.sheet.proofs.body.Body.draft.Goals.{In_ok-row}
-
-few : (c : In_ok-row) → c.loop-k.k-counter < 32
-few c = omega (arith, sizes_say (body_in c.args.self.now) c.args.self.now.right, c.loop-k-test.true)
 
 pub loop-k-init : goal.loop-k-init
 loop-k-init c = read_none _
-
-pub bounds-rows-k : goal.bounds-rows-k
-bounds-rows-k c = few (goal.at.bounds-rows-k c).In_ok-row
-
-pub bounds-lengths-k : goal.bounds-lengths-k
-bounds-lengths-k c = few (goal.at.bounds-lengths-k c).In_ok-row
 
 pub returns-in_err-row : goal.returns-in_err-row
 returns-in_err-row c =
@@ -32,7 +22,8 @@ returns-in_err-row c =
 pub loop-k-preserved : goal.loop-k-preserved
 loop-k-preserved c =
     let read = MatchResult-at_ok _ _ _ c.in_ok-row.was (through_map_err _ _ _ c.row_and_length.result c.map_err.result c.row_and_length.ensures c.map_err.ensures.cases) in
-    read_more _ _ (few (goal.at.loop-k-preserved c).In_ok-row) _ _ _ _ c.loop-k.invariant read.0 read.1 read.2
+    let few : c.loop-k.k-counter < 32 = omega (arith, sizes_say (body_in c.args.self.now) c.args.self.now.right, c.loop-k-test.true) in
+    read_more _ _ few _ _ _ _ c.loop-k.invariant read.0 read.1 read.2
 
 pub invariant_of-result : goal.invariant_of-result
 invariant_of-result c =
