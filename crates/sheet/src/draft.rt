@@ -1,5 +1,5 @@
 // A sheet whose rows are right each by itself, and what they are refused for together.
-ghost use Rattle.std.specs.Prelude.{◌≡◌, ℕ, ◌-◌, ◌<◌, ◌≤◌, true, false, MatchOption, length, slice_index, slice_index_or};
+ghost use Rattle.std.specs.Prelude.{◌≡◌, ℕ, ◌-◌, ◌<◌, ◌≤◌, true, false, length, slice_index, slice_index_or};
 ghost use Rattle.refusal.specs.declared.Refusal.TheVariants.{Unnamed, Inner};
 ghost use Rattle.sheet.specs.Rows.{facts_of, named_by};
 ghost use Rattle.sheet.specs.Rules.{all_under, length_of, row_at};
@@ -24,7 +24,7 @@ pub(crate) struct Draft {
 impl Draft {
     ghost use Rattle.sheet.specs.Rules.{named};
     ghost use Rattle.sheet.specs.Loading.{name_fault, inner_fault, is_inner};
-    ghost use Rattle.sheet.specs.Faults.{Faultless, Lowest};
+    ghost use Rattle.sheet.specs.Faults.{FindsLowest};
 
     fn row(&self, k: u8) -> Placed
         requires { k < self.now.count }
@@ -61,7 +61,7 @@ impl Draft {
 
     // The lowest row but the last that no row names.
     pub(crate) fn first_unnamed(&self) -> Option<u8>
-        ensures { MatchOption result (Faultless (name_fault self.now.count (row_at self.now.rows)) (self.now.count - 1)) (Lowest (name_fault self.now.count (row_at self.now.rows)) (self.now.count - 1) Unnamed) }
+        ensures { FindsLowest (name_fault self.now.count (row_at self.now.rows)) (self.now.count - 1) Unnamed result }
     {
         let named = self.named();
         (0..self.count - 1).find(|k| !named[*k as usize])
@@ -69,7 +69,7 @@ impl Draft {
 
     // The lowest row that is inner and may not be.
     pub(crate) fn first_wrong_inner(&self) -> Option<u8>
-        ensures { MatchOption result (Faultless (inner_fault self.now.count (row_at self.now.rows)) self.now.count) (Lowest (inner_fault self.now.count (row_at self.now.rows)) self.now.count Inner) }
+        ensures { FindsLowest (inner_fault self.now.count (row_at self.now.rows)) self.now.count Inner result }
     {
         let inner = self.inner();
         (0..self.count).find(|k| inner[*k as usize] && !self.row(*k).may_be_inner(&self.lengths))
