@@ -1,19 +1,19 @@
 -- How the three searches for a fault come together in what the bytes come to.
-use Rattle.std.proofs.Common.{◌≡◌, ℕ, zero, suc, ◌+◌, ◌-◌, ◌<◌, ◌≤◌, Bool, true, false, cond, not, ◌&&◌, leb, ltb, List, [], ◌∷◌, length, get_or, take, drop, Some, None, Option, sym, refl, ap, ◌∙◌, subst, subst₂, ⊎_elim, add-zero, arith}
+use Rattle.std.proofs.Common.{◌≡◌, ℕ, zero, suc, ◌+◌, ◌-◌, ◌<◌, ◌≤◌, Bool, true, cond, not, ◌&&◌, ltb, List, [], ◌∷◌, length, get_or, take, drop, Some, None, Option, sym, refl, ap, ◌∙◌, subst₂, ⊎_elim, arith}
 use mathlib.Core.Path.{fun_ext}
 use Rattle.std.proofs.lemmas.List.{get_or_append_left, get_or_past, get_or-take, length-take-le, take_all, ext_get_or}
 use Rattle.std.proofs.lemmas.Bool.Decides.{nat_tests}
 use Rattle.std.proofs.lemmas.Grind.{common_steps}
-use Rattle.std.proofs.lemmas.Bool.{cases_eq, cases_lt, cond-true, cond-false, le-ltb, and_parts, leb-true, leb-false}
+use Rattle.std.proofs.lemmas.Bool.{cases_eq, cases_lt, cond-true}
 use Rattle.refusal.specs.declared.Refusal.{Refusal}
-use Rattle.refusal.specs.declared.Refusal.TheVariants.{Kind, Operand, Length, Unnamed, Inner}
+use Rattle.refusal.specs.declared.Refusal.TheVariants.{Unnamed, Inner}
 use Rattle.refusal.specs.Numbers.{number_of}
 use Rattle.sheet.specs.declared.row.Row.{Row}
 use Rattle.sheet.specs.declared.row.Row.TheVariants.{Always}
-use Rattle.sheet.specs.Rows.{operands_of, named_by, may_be_inner, row_length}
+use Rattle.sheet.specs.Rows.{named_by, may_be_inner, row_length}
 use Rattle.sheet.specs.Rules.{all_under, in_range, lengths_of, length_of, named, row_at, RowsRight, RowsShort, RowsNamed, InnerRight}
-use Rattle.sheet.specs.Bytes.{Body, body_of, sizes_right, kind_in, operands_in, row_in}
-use Rattle.sheet.specs.Loading.{operands_right, row_fault, name_fault, inner_fault, is_inner, same, Verdict, accepted, refused, or_fault, or_lowest, rows_from, judged, load_result}
+use Rattle.sheet.specs.Bytes.{Body, body_of, sizes_right, operands_in, row_in}
+use Rattle.sheet.specs.Loading.{operands_right, row_fault, name_fault, inner_fault, is_inner, Verdict, accepted, refused, or_fault, or_lowest, rows_from, judged, load_result}
 use Rattle.sheet.specs.Faults.{Faultless, Lowest}
 use Rattle.sheet.specs.Conditions.{RowRight}
 use Rattle.sheet.specs.Steps.{AllRead}

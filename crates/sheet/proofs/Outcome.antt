@@ -2,10 +2,10 @@
 use Rattle.std.proofs.Common.{◌≡◌, ℕ, zero, suc, ◌+◌, ◌-◌, ◌*◌, ◌<◌, ◌≤◌, Bool, true, false, cond, not, ◌&&◌, leb, ◌⊎◌, List, [], ◌∷◌, ◌++◌, map, length, get_or, Some, None, Option, sym, refl, ap, ◌∙◌, subst, subst₂, inl, inr, ⊎_elim, arith}
 use mathlib.Core.Path.{fun_ext}
 use Rattle.std.specs.List.{flat_map}
-use Rattle.std.proofs.lemmas.List.{get_or_past, ext_get_or}
+use Rattle.std.proofs.lemmas.List.{get_or_past}
 use Rattle.std.proofs.lemmas.Bool.Decides.{nat_tests}
 use Rattle.std.proofs.lemmas.Grind.{common_steps}
-use Rattle.std.proofs.lemmas.Bool.{and_from, and_parts, le-leb, lt-leb, leb-true, leb-false, eq-eqb, cases_Bool, cases_lt, cases_eq, both_ways, cond-true, cond-false, not_from_false, not-true}
+use Rattle.std.proofs.lemmas.Bool.{and_from, leb-true, leb-false, cases_Bool, cases_lt, cases_eq, both_ways, cond-true, cond-false, not_from_false}
 use Rattle.refusal.specs.declared.Refusal.{Refusal}
 use Rattle.refusal.specs.declared.Refusal.TheVariants.{Sizes, Kind, Operand, Length, Unnamed, Inner, ShortLog, BrokenStrip, TakeComplete, ShortChart, UnequalStrips, Place}
 use Rattle.refusal.specs.Numbers.{number_of}
@@ -14,13 +14,13 @@ use Rattle.sheet.specs.declared.row.Row.TheVariants.{Always}
 use Rattle.sheet.specs.Rows.{kind_of, operands_of, may_be_inner}
 use Rattle.sheet.specs.Rules.{in_range, length_of, named, Written, row_at, RowsRight, RowsShort, RowsNamed, InnerRight, Keeps}
 use Rattle.sheet.specs.Bytes.{bytes_of, Body, body_of, sizes_right, kind_in, p_in, q_in, r_in, operands_in, kinds, row_in}
-use Rattle.sheet.specs.Loading.{same, operands_right, row_fault, name_fault, is_inner, inner_fault, Verdict, accepted, refused, rows_from, judged, load_result}
+use Rattle.sheet.specs.Loading.{operands_right, row_fault, name_fault, is_inner, inner_fault, Verdict, accepted, refused, rows_from, judged, load_result}
 use Rattle.sheet.specs.Faults.{Faultless, Lowest}
 use Rattle.sheet.specs.Conditions.{Sized, KindRight, OperandsRight, LengthRight, RowRight, ComeTo, AllRight, InnerFits, RefusedFor}
 use Rattle.sheet.proofs.Reading.{sizes_say, row_in_below}
 use Rattle.sheet.proofs.Inner.{inner_sound, inner_complete}
 use Rattle.sheet.proofs.Judging.{row_right, lower_rows, past_rows, name_fine, inner_fine_says, all_named, inner_right, length_rows, row_from, rows_again, judged_row, judged_name, judged_inner, judged_sheet}
-use Rattle.sheet.proofs.Writing.{three_operands, read_back, kind_below, kind_back, written_kind, written_operand, written_length, written_all, operands_fit, fit_operands}
+use Rattle.sheet.proofs.Writing.{read_back, kind_below, kind_back, written_kind, written_operand, written_length, written_all, operands_fit, fit_operands}
 
 -- The tests of the definition against the words of the conditions, for row k.
 

@@ -1,22 +1,20 @@
 -- How one row is read: what its fault is, and what its length is.
-use Rattle.std.proofs.Common.{◌≡◌, ℕ, zero, suc, ◌+◌, ◌*◌, ◌<◌, ◌≤◌, Bool, true, false, cond, ◌&&◌, eqb, ltb, leb, List, [], ◌∷◌, ◌++◌, length, get_or, set, replicate, Some, None, Ok, Err, Result, MatchResult, sym, refl, ap, ◌∙◌, subst, ⊎_elim, add-one, arith, below_more}
-use Rattle.std.proofs.lemmas.List.{length_push, length-set, get_or_push, get_or_append_left, get_or_past, get_or-set_same, get_or-set_other}
-use Rattle.std.proofs.lemmas.Bool.{lt-ltb, le-ltb, cond-true, cond-false, and_parts, le-leb, lt-leb, leb-true, eqb-true, cases_eq, cases_lt}
+use Rattle.std.proofs.Common.{◌≡◌, ℕ, zero, suc, ◌+◌, ◌<◌, true, cond, ltb, List, [], ◌∷◌, ◌++◌, length, get_or, set, replicate, None, Ok, Err, Result, MatchResult, sym, refl, ap, ◌∙◌, subst, ⊎_elim, add-one, arith, below_more}
+use Rattle.std.proofs.lemmas.List.{length_push, length-set, get_or_push, get_or-set_same, get_or-set_other}
+use Rattle.std.proofs.lemmas.Bool.{le-ltb, cond-false, cases_eq}
 use Rattle.std.proofs.lemmas.Bool.Decides.{nat_tests}
 use Rattle.std.proofs.lemmas.Grind.{common_steps}
 use Rattle.std.specs.Result.{IsErrAnd, OkIff}
 use Rattle.std.proofs.lemmas.Result.{OkIff-at_ok, OkIff-at_err}
-use Rattle.refusal.specs.declared.Refusal.{Refusal}
-use Rattle.refusal.specs.declared.Refusal.TheVariants.{Kind, Operand, Length}
 use Rattle.sheet.specs.declared.row.Row.{Row}
 use Rattle.sheet.specs.declared.row.Row.TheVariants.{Always}
-use Rattle.sheet.specs.Rows.{row_length, named_by, facts_of, operands_of, window_right}
+use Rattle.sheet.specs.Rows.{row_length, named_by, facts_of}
 use Rattle.sheet.specs.Rules.{lengths_of, length_of, all_under, in_range}
-use Rattle.sheet.specs.Bytes.{Body, sizes_right, kind_in, p_in, q_in, r_in, operands_in, kinds, row_in}
-use Rattle.sheet.specs.Loading.{operands_right, row_fault, same}
+use Rattle.sheet.specs.Bytes.{Body, sizes_right, kind_in, p_in, q_in, r_in, kinds, row_in}
+use Rattle.sheet.specs.Loading.{row_fault}
 use Rattle.sheet.specs.Faults.{Faultless}
 use Rattle.sheet.specs.Conditions.{Sized}
-use Rattle.sheet.specs.Steps.{Measures, AllRead}
+use Rattle.sheet.specs.Steps.{Measures}
 
 pub length_lengths : (row : ℕ → Row) (n : ℕ) → length (lengths_of row n) ≡ n
 length_lengths row zero = refl

@@ -1,6 +1,6 @@
 use Rattle.std.proofs.Common.{◌≡◌, suc, ◌-◌, ◌<◌, false, get_or, sym, subst, arith}
 use Rattle.sheet.specs.SideSteps.{HandedOn}
-use Rattle.sheet.proofs.Sides.{Swept, swept_start, swept_more, swept_done, row_is_read, read_lower, read_few}
+use Rattle.sheet.proofs.Sides.{Swept, swept_start, swept_more, swept_done, row_is_read}
 use Rattle.sheet.proofs.record.Sheet.facts_reached.Goals as goal
 
 pub loop-k-init : goal.loop-k-init
