@@ -42,14 +42,14 @@ pub straight : (r : Row) (k : ℕ) → has (named_by r) k ≡ true → (r ≡ No
 straight r k h other = grind (arith, nat_tests)
 
 reading : (r : Row) (f : ℕ) → has (facts_of r) f ≡ true → ((d : ℕ) × (r ≡ Hold d f)) ⊎ ((d : ℕ) × (r ≡ HoldOff d f))
-reading Always f h = absurd (false≢true h)
+reading Always f h = cc
 reading (Hold duration fact) f h = inl (duration, ap (Hold duration) (only fact f h))
 reading (HoldOff duration fact) f h = inr (duration, ap (HoldOff duration) (only fact f h))
-reading (Both left right) f h = absurd (false≢true h)
-reading (Either left right) f h = absurd (false≢true h)
-reading (Not row) f h = absurd (false≢true h)
-reading (Then left right) f h = absurd (false≢true h)
-reading (Within from to row) f h = absurd (false≢true h)
+reading (Both left right) f h = cc
+reading (Either left right) f h = cc
+reading (Not row) f h = cc
+reading (Then left right) f h = cc
+reading (Within from to row) f h = cc
 
 -- a row of a chain goes on to each row that it names, and reaches each fact that it reads
 module _ (row : ℕ → Row) (last : ℕ) where
@@ -122,20 +122,13 @@ module _ (row : ℕ → Row) (last : ℕ) (Done : ℕ → Bool → Type 0) (i : 
 
     -- the row names no row that is done, nor itself
     same : (j : ℕ) (t : Bool) → i ≤ j → rows' t j ≡ true → rows t j ≡ true
-    same j t le e =
-        ⊎_elim (λ h. h)
-        (λ h. absurd (both_ways (has (named_by (row i)) j) (has_under i j (named_by (row i)) lower le) (and_parts (sent t) (has (named_by (row i)) j) h).1))
-        (or_cases (rows t j) (sent t && has (named_by (row i)) j) (sym (row_is t j) ∙ e))
+    same j t le e = let other = has_under i j (named_by (row i)) lower le in let is = row_is t j in grind arith
 
     row_here : (k : ℕ) → rows' p i ≡ true → has (named_by (row i)) k ≡ true → rows' (after (row i) p) k ≡ true
-    row_here k e h =
-        row_is (after (row i) p) k
-        ∙ or_right (rows (after (row i) p) k) (sent (after (row i) p) && has (named_by (row i)) k) (and_from (sent (after (row i) p)) (has (named_by (row i)) k) (sent_after (same i p (omega arith) e)) h)
+    row_here k e h = let sends = sent_after (same i p (omega arith) e) in let is = row_is (after (row i) p) k in grind arith
 
     fact_here : (f : ℕ) → rows' p i ≡ true → has (facts_of (row i)) f ≡ true → facts' (after (row i) p) f ≡ true
-    fact_here f e h =
-        fact_is (after (row i) p) f
-        ∙ or_right (facts (after (row i) p) f) (sent (after (row i) p) && has (facts_of (row i)) f) (and_from (sent (after (row i) p)) (has (facts_of (row i)) f) (sent_after (same i p (omega arith) e)) h)
+    fact_here f e h = let sends = sent_after (same i p (omega arith) e) in let is = fact_is (after (row i) p) f in grind arith
 
     at_here : (P : ℕ → Bool → Type 0) {j : ℕ} {t : Bool} → P i p → (j ≡ i) × (t ≡ p) → P j t
     at_here P {j} {t} h e = subst (λ x. P x t) (sym e.0) (subst (P i) (sym e.1) h)
