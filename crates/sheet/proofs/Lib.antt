@@ -1,8 +1,8 @@
 pub mod Has
 pub mod Reading
-pub mod Sweeps
 pub mod Sides
 pub mod Inner
+pub mod Searches
 pub mod Judging
 pub mod Writing
 pub mod Outcome

@@ -1,5 +1,5 @@
 -- What load promises in words follows from what the bytes come to.
-use Rattle.std.proofs.Common.{◌≡◌, ℕ, true, ◌↔◌, List, is_ok, Ok, Err, Result, sym, refl, ap, ◌∙◌, subst, arith}
+use Rattle.std.proofs.Common.{◌≡◌, ℕ, true, ◌↔◌, List, is_ok, Ok, Err, Result, sym, refl, ap, ◌∙◌, subst}
 use Rattle.std.proofs.lemmas.Bool.{false≢true}
 use Rattle.refusal.specs.declared.Refusal.{Refusal}
 use Rattle.refusal.specs.Numbers.{number_of}
@@ -23,7 +23,7 @@ says bytes v (is_sheet w same keeps) = (same, keeps)
 says bytes v (is_refused r k why) = (r, refl, why)
 
 never_both : (w : Written) (n k : ℕ) → accepted w ≡ refused n k → ⊥
-never_both w n k e = let z : ◌≡◌ {A = ℕ} 0 1 = cc in omega arith
+never_both w n k e = cc
 
 same_fault : (f g : Fault) → refused (number_of f.refusal) f.row ≡ refused (number_of g.refusal) g.row → f ≡ g
 same_fault f g e =
@@ -44,7 +44,7 @@ module _ (bytes : List ℕ) (s : Sheet) where
   same_rows (Err f) e t = absurd (false≢true t)
 
   pub refuses : (r : Result (Unit {0}) Fault) → verdict_of r s ≡ load_result bytes → (f : Fault) → (r ≡ Err f) ↔ RefusedFor bytes f.refusal f.row
-  refuses (Ok done) e f = (λ p. absurd (let z : ◌≡◌ {A = ℕ} 0 1 = cc in omega arith), λ why. absurd (never_both _ _ _ (e ∙ refused_when bytes f.refusal f.row why)))
+  refuses (Ok done) e f = (λ p. cc, λ why. absurd (never_both _ _ _ (e ∙ refused_when bytes f.refusal f.row why)))
   refuses (Err g) e f = (
     λ p. let same : g ≡ f = cc in
         let t = told (refused (number_of g.refusal) g.row) e in

@@ -1,9 +1,11 @@
 -- What the bytes come to, against the conditions in the subject's own words: each way, both ways round.
-use Rattle.std.proofs.Common.{◌≡◌, ℕ, zero, suc, ◌+◌, ◌-◌, ◌*◌, ◌<◌, ◌≤◌, Bool, true, false, not, ◌&&◌, leb, ◌⊎◌, List, [], ◌∷◌, ◌++◌, map, length, get_or, Some, None, Option, sym, refl, ap, ◌∙◌, subst, subst₂, inl, inr, ⊎_elim, arith}
+use Rattle.std.proofs.Common.{◌≡◌, ℕ, zero, suc, ◌+◌, ◌-◌, ◌*◌, ◌<◌, ◌≤◌, Bool, true, false, cond, not, ◌&&◌, leb, ◌⊎◌, List, [], ◌∷◌, ◌++◌, map, length, get_or, Some, None, Option, sym, refl, ap, ◌∙◌, subst, subst₂, inl, inr, ⊎_elim, arith}
 use mathlib.Core.Path.{fun_ext}
 use Rattle.std.specs.List.{flat_map}
-use Rattle.std.proofs.lemmas.List.{get_or_past, ext_get_or}
-use Rattle.std.proofs.lemmas.Bool.{and_from, and_parts, le-leb, lt-leb, leb-true, leb-false, eq-eqb, cases_Bool, cases_lt, cases_eq, both_ways, cond-true, cond-false, not_from_false, not-true}
+use Rattle.std.proofs.lemmas.List.{get_or_past}
+use Rattle.std.proofs.lemmas.Bool.Decides.{nat_tests}
+use Rattle.std.proofs.lemmas.Grind.{common_steps}
+use Rattle.std.proofs.lemmas.Bool.{and_from, leb-true, leb-false, cases_Bool, cases_lt, cases_eq, both_ways, cond-true, cond-false, not_from_false}
 use Rattle.refusal.specs.declared.Refusal.{Refusal}
 use Rattle.refusal.specs.declared.Refusal.TheVariants.{Sizes, Kind, Operand, Length, Unnamed, Inner, ShortLog, BrokenStrip, TakeComplete, ShortChart, UnequalStrips, Place}
 use Rattle.refusal.specs.Numbers.{number_of}
@@ -12,48 +14,39 @@ use Rattle.sheet.specs.declared.row.Row.TheVariants.{Always}
 use Rattle.sheet.specs.Rows.{kind_of, operands_of, may_be_inner}
 use Rattle.sheet.specs.Rules.{in_range, length_of, named, Written, row_at, RowsRight, RowsShort, RowsNamed, InnerRight, Keeps}
 use Rattle.sheet.specs.Bytes.{bytes_of, Body, body_of, sizes_right, kind_in, p_in, q_in, r_in, operands_in, kinds, row_in}
-use Rattle.sheet.specs.Loading.{same, operands_right, row_fault, name_fault, is_inner, inner_fault, Verdict, accepted, refused, rows_from, judged, load_result}
+use Rattle.sheet.specs.Loading.{operands_right, row_fault, name_fault, is_inner, inner_fault, Verdict, accepted, refused, rows_from, judged, load_result}
 use Rattle.sheet.specs.Faults.{Faultless, Lowest}
 use Rattle.sheet.specs.Conditions.{Sized, KindRight, OperandsRight, LengthRight, RowRight, ComeTo, AllRight, InnerFits, RefusedFor}
 use Rattle.sheet.proofs.Reading.{sizes_say, row_in_below}
-use Rattle.sheet.proofs.Sweeps.{not_both}
 use Rattle.sheet.proofs.Inner.{inner_sound, inner_complete}
 use Rattle.sheet.proofs.Judging.{row_right, lower_rows, past_rows, name_fine, inner_fine_says, all_named, inner_right, length_rows, row_from, rows_again, judged_row, judged_name, judged_inner, judged_sheet}
-use Rattle.sheet.proofs.Writing.{three_operands, read_back, kind_below, kind_back, written_kind, written_operand, written_length, written_all, same_true, true_same}
+use Rattle.sheet.proofs.Writing.{read_back, kind_below, kind_back, written_kind, written_operand, written_length, written_all, operands_fit, fit_operands}
 
 -- The tests of the definition against the words of the conditions, for row k.
 
 pub sizes_from : (bytes : List ℕ) (b : Body) → Sized bytes b → sizes_right b ≡ true
-sizes_from bytes b s =
-    and_from _ _ (and_from _ _ (le-leb 1 _ s.some_fact) (le-leb _ 16 s.few_facts))
-    (and_from _ _ (and_from _ _ (le-leb 1 _ s.some_row) (le-leb _ 32 s.few_rows)) (eq-eqb _ _ s.all))
+sizes_from bytes b s = grind (arith, nat_tests, s.some_fact, s.few_facts, s.some_row, s.few_rows, s.all)
 
 some_is : {r x : Refusal} → Some r ≡ Some x → r ≡ x
 some_is h = cc
 
 none_some : {r : Refusal} → None ≡ Some r → ⊥
-none_some h = let e : ◌≡◌ {A = ℕ} 0 1 = cc in omega arith
+none_some h = cc
 
 module _ (b : Body) (k : ℕ) where
-  operands_test : operands_right b.facts k (row_in b k) (operands_in b k) ≡ true → OperandsRight b k
-  operands_test h = let both = and_parts (same (operands_of (row_in b k)) (operands_in b k)) (in_range b.facts k (row_in b k)) h in (same_true _ _ both.0, both.1)
-
-  test_operands : OperandsRight b k → operands_right b.facts k (row_in b k) (operands_in b k) ≡ true
-  test_operands h = and_from (same (operands_of (row_in b k)) (operands_in b k)) (in_range b.facts k (row_in b k)) (subst (λ given. same (operands_of (row_in b k)) given ≡ true) h.0 (true_same (operands_of (row_in b k)))) h.1
-
   pub right_row : RowRight b k → row_fault b k ≡ None
-  right_row r = cond-false _ _ _ (lt-leb 8 _ r.kind) ∙ cond-true _ _ _ (test_operands r.operands) ∙ cond-true _ _ _ (le-leb _ 255 r.short)
+  right_row r = grind (arith, nat_tests, r.kind, fit_operands b k r.operands, r.short)
 
   pub fault_kind : (KindRight b k → ⊥) → row_fault b k ≡ Some Kind
-  fault_kind wrong = cond-true _ _ _ (le-leb 8 (kind_in b k) (⊎_elim (λ less. absurd (wrong less)) (λ h. h) (cases_lt (kind_in b k) 8)))
+  fault_kind wrong = grind (arith, nat_tests)
 
   pub fault_operand : KindRight b k → (OperandsRight b k → ⊥) → row_fault b k ≡ Some Operand
-  fault_operand kind wrong = cond-false _ _ _ (lt-leb 8 _ kind) ∙ cond-false _ _ _ (⊎_elim (λ t. absurd (wrong (operands_test t))) (λ f. f) (cases_Bool (operands_right b.facts k (row_in b k) (operands_in b k))))
+  fault_operand kind wrong =
+      let unfit : operands_right b.facts k (row_in b k) (operands_in b k) ≡ true → ⊥ = λ t. wrong (operands_fit b k t) in
+      grind (arith, nat_tests)
 
   pub fault_length : KindRight b k → OperandsRight b k → (LengthRight b k → ⊥) → row_fault b k ≡ Some Length
-  fault_length kind operands wrong =
-      cond-false _ _ _ (lt-leb 8 _ kind) ∙ cond-true _ _ _ (test_operands operands)
-      ∙ cond-false _ _ _ (⊎_elim (λ t. absurd (wrong (leb-true _ 255 t))) (λ f. f) (cases_Bool (leb (length_of (row_in b) k) 255)))
+  fault_length kind operands wrong = grind (arith, nat_tests, fit_operands b k operands)
 
   -- which test failed
   module _ (bytes : List ℕ) (sized : Sized bytes b) (among : k < b.count) (before : (j : ℕ) → j < k → RowRight b j) where
@@ -67,20 +60,26 @@ module _ (b : Body) (k : ℕ) where
         (λ f. let kind = leb-false 8 (kind_in b k) f in let h₁ = sym (cond-false _ _ _ f) ∙ h in ⊎_elim
         (λ t₂. let h₂ = sym (cond-true _ _ _ t₂) ∙ h₁ in ⊎_elim
         (λ t₃. absurd (none_some (sym (cond-true _ _ _ t₃) ∙ h₂)))
-        (λ f₃. subst (λ x. RefusedFor bytes x k) (some_is (sym (cond-false _ _ _ f₃) ∙ h₂)) (come, kind, operands_test t₂, λ short. omega (arith, leb-false _ 255 f₃, short)))
+        (λ f₃. subst (λ x. RefusedFor bytes x k) (some_is (sym (cond-false _ _ _ f₃) ∙ h₂)) (come, kind, operands_fit b k t₂, λ short. omega (arith, leb-false _ 255 f₃, short)))
         (cases_Bool (leb (length_of (row_in b) k) 255)))
-        (λ f₂. subst (λ x. RefusedFor bytes x k) (some_is (sym (cond-false _ _ _ f₂) ∙ h₁)) (come, kind, λ o. both_ways _ f₂ (test_operands o)))
+        (λ f₂. subst (λ x. RefusedFor bytes x k) (some_is (sym (cond-false _ _ _ f₂) ∙ h₁)) (come, kind, λ o. both_ways _ f₂ (fit_operands b k o)))
         (cases_Bool (operands_right b.facts k (row_in b k) (operands_in b k))))
         (cases_Bool (leb 8 (kind_in b k)))
 
   -- operand i of row k stands at its place
   operand_at : (i : ℕ) → i < 3 → get_or (operands_in b k) i 0 ≡ get_or b.rest (b.count + (3 * k + i)) 0
-  operand_at zero h = ap (λ n. get_or b.rest n 0) (omega arith)
-  operand_at (suc zero) h = ap (λ n. get_or b.rest n 0) (omega arith)
-  operand_at (suc (suc zero)) h = ap (λ n. get_or b.rest n 0) (omega arith)
-  operand_at (suc (suc (suc i))) h = absurd (omega arith)
+  operand_at i h = grind (arith, common_steps)
 
--- The rows together.
+-- The rows together: what each test of them says.
+
+name_missing : (t : Bool) (r : Refusal) → cond t None (Some Unnamed) ≡ Some r → (t ≡ false) × (r ≡ Unnamed)
+name_missing t r h = (grind arith, grind arith)
+
+inner_wrong : (t u : Bool) (r : Refusal) → cond (t && not u) (Some Inner) None ≡ Some r → (t ≡ true) × (u ≡ false) × (r ≡ Inner)
+inner_wrong t u r h = (grind arith, grind arith, grind arith)
+
+inner_fine : (t u : Bool) → (t ≡ true → u ≡ true) → cond (t && not u) (Some Inner) None ≡ None
+inner_fine t u h = grind arith
 
 module _ (bytes : List ℕ) (b : Body) (sized : Sized bytes b) (rows : (j : ℕ) → j < b.count → RowRight b j) where
   all : AllRight bytes
@@ -91,22 +90,19 @@ module _ (bytes : List ℕ) (b : Body) (sized : Sized bytes b) (rows : (j : ℕ)
 
   pub why_name : (r : Refusal) (k : ℕ) → Lowest (name_fault b.count (row_in b)) (b.count - 1) r k → RefusedFor bytes r k
   unfolding all
-  why_name r k l = ⊎_elim
-      (λ t. absurd (none_some (sym (cond-true _ _ _ t) ∙ l.here)))
-      (λ f. subst (λ x. RefusedFor bytes x k) (some_is (sym (cond-false _ _ _ f) ∙ l.here)) (all, omega (arith, l.among), both_ways _ f, λ j lt. name_fine _ (l.before j lt)))
-      (cases_Bool (named (row_in b) b.count k))
+  why_name r k l =
+      let missing = name_missing (named (row_in b) b.count k) r l.here in
+      subst (λ x. RefusedFor bytes x k) (sym missing.1) (all, omega (arith, l.among), both_ways _ missing.0, λ j lt. name_fine _ (l.before j lt))
 
   inner_fits : (k : ℕ) → k < b.count → inner_fault b.count (row_in b) k ≡ None → InnerFits b k
   inner_fits k h e i = inner_fine_says (is_inner (row_in b) b.count k) (may_be_inner (length_of (row_in b)) (row_in b k)) e (inner_complete (row_in b) b.count (lower_rows b rows) i)
 
   pub why_inner : RowsNamed b.count (row_in b) → (r : Refusal) (k : ℕ) → Lowest (inner_fault b.count (row_in b)) b.count r k → RefusedFor bytes r k
   unfolding all
-  why_inner names r k l = ⊎_elim
-      (λ t. let both = and_parts (is_inner (row_in b) b.count k) (not (may_be_inner (length_of (row_in b)) (row_in b k))) t in
-      subst (λ x. RefusedFor bytes x k) (some_is (sym (cond-true _ _ _ t) ∙ l.here))
-      (all, names, l.among, (λ fits. both_ways _ (not-true _ both.1) (fits (inner_sound (row_in b) b.count k both.0))), λ j lt. inner_fits j (omega (arith, l.among)) (l.before j lt)))
-      (λ f. absurd (none_some (sym (cond-false _ _ _ f) ∙ l.here)))
-      (cases_Bool (is_inner (row_in b) b.count k && not (may_be_inner (length_of (row_in b)) (row_in b k))))
+  why_inner names r k l =
+      let wrong = inner_wrong (is_inner (row_in b) b.count k) (may_be_inner (length_of (row_in b)) (row_in b k)) r l.here in
+      subst (λ x. RefusedFor bytes x k) (sym wrong.2)
+      (all, names, l.among, (λ fits. both_ways _ wrong.1 (fits (inner_sound (row_in b) b.count k wrong.0))), λ j lt. inner_fits j (omega (arith, l.among)) (l.before j lt))
 
   pub fault_inner : (k : ℕ) → (InnerFits b k → ⊥) → inner_fault b.count (row_in b) k ≡ Some Inner
   fault_inner k wrong = cond-true _ _ _ (⊎_elim
@@ -115,7 +111,7 @@ module _ (bytes : List ℕ) (b : Body) (sized : Sized bytes b) (rows : (j : ℕ)
       (cases_Bool (is_inner (row_in b) b.count k)))
 
   pub none_inner : (k : ℕ) → InnerFits b k → inner_fault b.count (row_in b) k ≡ None
-  none_inner k fits = cond-false _ _ _ (not_both _ _ (λ t. fits (inner_sound (row_in b) b.count k t)))
+  none_inner k fits = inner_fine (is_inner (row_in b) b.count k) (may_be_inner (length_of (row_in b)) (row_in b k)) (λ t. fits (inner_sound (row_in b) b.count k t))
 
   -- where nothing is refused, the bytes are a sheet's
   abbrev rows_in : List Row
@@ -264,13 +260,7 @@ refused_when bytes Place k h = absurd h
 
 -- a row's three operands, one by one
 three : (row : Row) → get_or (operands_of row) 0 0 ∷ get_or (operands_of row) 1 0 ∷ get_or (operands_of row) 2 0 ∷ [] ≡ operands_of row
-three row = ext_get_or 0 _ (operands_of row) (sym (three_operands row)) (λ i h. at i h)
-  where
-    at : (i : ℕ) → i < 3 → get_or (get_or (operands_of row) 0 0 ∷ get_or (operands_of row) 1 0 ∷ get_or (operands_of row) 2 0 ∷ []) i 0 ≡ get_or (operands_of row) i 0
-    at zero h = refl
-    at (suc zero) h = refl
-    at (suc (suc zero)) h = refl
-    at (suc (suc (suc i))) h = absurd (omega arith)
+three row = grind arith
 
 -- a sheet that keeps the rules is what its bytes come to
 module _ (w : Written) (keeps : Keeps w) where

@@ -1,19 +1,20 @@
 -- How one row is read: what its fault is, and what its length is.
-use Rattle.std.proofs.Common.{◌≡◌, ℕ, zero, suc, ◌+◌, ◌*◌, ◌<◌, ◌≤◌, Bool, true, false, cond, ◌&&◌, eqb, ltb, leb, List, [], ◌∷◌, ◌++◌, length, get_or, set, replicate, Some, None, Ok, Err, Result, sym, refl, ap, ◌∙◌, subst, ⊎_elim, add-one, arith, below_more}
-use Rattle.std.proofs.lemmas.List.{length_push, length-set, get_or_push, get_or_append_left, get_or_past, get_or-set_same, get_or-set_other}
-use Rattle.std.proofs.lemmas.Bool.{lt-ltb, le-ltb, cond-true, cond-false, and_parts, le-leb, lt-leb, leb-true, eqb-true, cases_eq, cases_lt}
+use Rattle.std.proofs.Common.{◌≡◌, ℕ, zero, suc, ◌+◌, ◌<◌, true, cond, ltb, List, [], ◌∷◌, ◌++◌, length, get_or, set, replicate, None, Ok, Err, Result, MatchResult, sym, refl, ap, ◌∙◌, subst, ⊎_elim, add-one, arith, below_more}
+use Rattle.std.proofs.lemmas.List.{length_push, length-set, get_or_push, get_or-set_same, get_or-set_other}
+use Rattle.std.proofs.lemmas.Bool.{le-ltb, cond-false, cases_eq}
 use Rattle.std.proofs.lemmas.Bool.Decides.{nat_tests}
-use Rattle.refusal.specs.declared.Refusal.{Refusal}
-use Rattle.refusal.specs.declared.Refusal.TheVariants.{Kind, Operand, Length}
+use Rattle.std.proofs.lemmas.Grind.{common_steps}
+use Rattle.std.specs.Result.{IsErrAnd, OkIff}
+use Rattle.std.proofs.lemmas.Result.{OkIff-at_ok, OkIff-at_err}
 use Rattle.sheet.specs.declared.row.Row.{Row}
 use Rattle.sheet.specs.declared.row.Row.TheVariants.{Always}
-use Rattle.sheet.specs.Rows.{row_length, named_by, facts_of, operands_of, window_right}
+use Rattle.sheet.specs.Rows.{row_length, named_by, facts_of}
 use Rattle.sheet.specs.Rules.{lengths_of, length_of, all_under, in_range}
-use Rattle.sheet.specs.Bytes.{Body, sizes_right, kind_in, p_in, q_in, r_in, operands_in, kinds, row_in}
-use Rattle.sheet.specs.Loading.{operands_right, row_fault, same}
+use Rattle.sheet.specs.Bytes.{Body, sizes_right, kind_in, p_in, q_in, r_in, kinds, row_in}
+use Rattle.sheet.specs.Loading.{row_fault}
 use Rattle.sheet.specs.Faults.{Faultless}
 use Rattle.sheet.specs.Conditions.{Sized}
-use Rattle.sheet.specs.Steps.{Measures, AllRead}
+use Rattle.sheet.specs.Steps.{Measures}
 
 pub length_lengths : (row : ℕ → Row) (n : ℕ) → length (lengths_of row n) ≡ n
 length_lengths row zero = refl
@@ -24,81 +25,40 @@ pub length_of_is : (row : ℕ → Row) (k : ℕ) → length_of row k ≡ row_len
 length_of_is row k = get_or_push (lengths_of row k) _ 0 k (length_lengths row k)
 
 pub row_in_below : (b : Body) (k : ℕ) → k < b.count → row_in b k ≡ get_or (kinds (p_in b k) (q_in b k) (r_in b k)) (kind_in b k) Always
-row_in_below b k h = cond-true _ _ _ (lt-ltb k b.count h)
+row_in_below b k h = grind (arith, nat_tests)
 
--- what read_row answers at row k, as the row is taken for `row`
-abbrev Answered : Body → ℕ → Row → Result Row Refusal → Type 0
-Answered b k row o = o ≡ cond (leb 8 (kind_in b k)) (Err Kind) (cond (operands_right b.facts k row (operands_in b k)) (Ok row) (Err Operand))
-
-at_row_in : (b : Body) (k : ℕ) → k < b.count → (o : Result Row Refusal) → Answered b k (get_or (kinds (p_in b k) (q_in b k) (r_in b k)) (kind_in b k) Always) o → Answered b k (row_in b k) o
-at_row_in b k h o = subst (λ row. Answered b k row o) (sym (row_in_below b k h))
-
-choice_refused : (x y z : Bool) (row : Row) (r : Refusal) → Err r ≡ cond x (Err Kind) (cond y (Ok row) (Err Operand)) → cond x (Some Kind) (cond y (cond z None (Some Length)) (Some Operand)) ≡ Some r
-choice_refused true y z row r h = cc
-choice_refused false true z row r h = absurd (let e : ◌≡◌ {A = ℕ} 0 1 = cc in omega arith)
-choice_refused false false z row r h = cc
-
-pub read_refused : (b : Body) (k : ℕ) (r : Refusal) → k < b.count → Answered b k (get_or (kinds (p_in b k) (q_in b k) (r_in b k)) (kind_in b k) Always) (Err r) → row_fault b k ≡ Some r
-read_refused b k r h a = choice_refused (leb 8 (kind_in b k)) (operands_right b.facts k (row_in b k) (operands_in b k)) (leb (length_of (row_in b) k) 255) (row_in b k) r (at_row_in b k h (Err r) a)
-
-choice_read : (x y : Bool) (row got : Row) → Ok got ≡ cond x (Err Kind) (cond y (Ok row) (Err Operand)) → (x ≡ false) × (y ≡ true) × (got ≡ row)
-choice_read true y row got h = absurd (let e : ◌≡◌ {A = ℕ} 0 1 = cc in omega arith)
-choice_read false true row got h = (refl, refl, cc)
-choice_read false false row got h = absurd (let e : ◌≡◌ {A = ℕ} 0 1 = cc in omega arith)
-
--- a row that was read: its kind and operands are right, and it is the one that the bytes have
-pub record Got (b : Body) (k : ℕ) (row : Row) : Type 0 where
-  pub kind : leb 8 (kind_in b k) ≡ false
-  pub operands : operands_right b.facts k (row_in b k) (operands_in b k) ≡ true
-  pub is : row ≡ row_in b k
-
-pub read_got : (b : Body) (k : ℕ) (row : Row) → k < b.count → Answered b k (get_or (kinds (p_in b k) (q_in b k) (r_in b k)) (kind_in b k) Always) (Ok row) → Got b k row
-read_got b k row h a = let e = choice_read (leb 8 (kind_in b k)) (operands_right b.facts k (row_in b k) (operands_in b k)) (row_in b k) row (at_row_in b k h (Ok row) a) in record { kind = e.0; operands = e.1; is = e.2 }
-
--- such a row reads facts that there are, and names only lower rows
+-- a row in range reads facts that there are, and names only lower rows
 pub range_facts : (facts k : ℕ) (row : Row) → in_range facts k row ≡ true → all_under facts (facts_of row) ≡ true
-range_facts facts k row h = (and_parts (all_under facts (facts_of row)) _ h).0
+range_facts facts k row h = grind arith
 
 pub range_lower : (facts k : ℕ) (row : Row) → in_range facts k row ≡ true → all_under k (named_by row) ≡ true
-range_lower facts k row h = (and_parts (all_under k (named_by row)) (window_right row) (and_parts (all_under facts (facts_of row)) _ h).1).0
-
-operands_lower : (facts k : ℕ) (row : Row) (given : List ℕ) → operands_right facts k row given ≡ true → all_under k (named_by row) ≡ true
-operands_lower facts k row given h = range_lower facts k row (and_parts (same (operands_of row) given) (in_range facts k row) h).1
-
-pub got_lower : (b : Body) (k : ℕ) (row : Row) → Got b k row → all_under k (named_by row) ≡ true
-got_lower b k row g = subst (λ x. all_under k (named_by x) ≡ true) (sym g.is) (operands_lower b.facts k (row_in b k) (operands_in b k) g.operands)
+range_lower facts k row h = grind arith
 
 -- the length by a table that has those of the lower rows
 pub length_by_table : (b : Body) (k : ℕ) (lens : List ℕ) (row : Row) → Measures b k lens → row ≡ row_in b k → row_length (λ i. get_or lens i 0) row ≡ length_of (row_in b) k
 length_by_table b k lens row m e = (λ i. row_length (λ j. m.entry j i) (e i)) ∙ sym (length_of_is (row_in b) k)
 
-fault_none : (x y z : Bool) → x ≡ false → y ≡ true → z ≡ true → cond x (Some Kind) (cond y (cond z None (Some Length)) (Some Operand)) ≡ None
-fault_none x y z p q r = cc
-
-fault_long : (x y z : Bool) → x ≡ false → y ≡ true → z ≡ false → cond x (Some Kind) (cond y (cond z None (Some Length)) (Some Operand)) ≡ Some Length
-fault_long x y z p q r = cc
-
-pub got_fine : (b : Body) (k : ℕ) (row : Row) → Got b k row → length_of (row_in b) k < 256 → row_fault b k ≡ None
-got_fine b k row g h = fault_none (leb 8 (kind_in b k)) (operands_right b.facts k (row_in b k) (operands_in b k)) (leb (length_of (row_in b) k) 255) g.kind g.operands (le-leb _ 255 (omega arith))
-
-pub got_long : (b : Body) (k : ℕ) (row : Row) → Got b k row → 256 ≤ length_of (row_in b) k → row_fault b k ≡ Some Length
-got_long b k row g h = fault_long (leb 8 (kind_in b k)) (operands_right b.facts k (row_in b k) (operands_in b k)) (leb (length_of (row_in b) k) 255) g.kind g.operands (lt-leb _ 255 (omega arith))
-
 -- what right sizes say
 pub sizes_say : (b : Body) → sizes_right b ≡ true → Sized (b.facts ∷ b.count ∷ b.rest) b
-sizes_say b h =
-    let both = and_parts (leb 1 b.facts && leb b.facts 16) _ h in
-    let facts = and_parts (leb 1 b.facts) (leb b.facts 16) both.0 in
-    let others = and_parts (leb 1 b.count && leb b.count 32) (eqb (length b.rest) (4 * b.count)) both.1 in
-    let rows = and_parts (leb 1 b.count) (leb b.count 32) others.0 in
-    record {
-      whole = refl;
-      some_fact = leb-true _ _ facts.0;
-      few_facts = leb-true _ _ facts.1;
-      some_row = leb-true _ _ rows.0;
-      few_rows = leb-true _ _ rows.1;
-      all = eqb-true _ _ others.1;
-    }
+sizes_say b h = record {
+  whole = refl;
+  some_fact = grind (arith, nat_tests);
+  few_facts = grind (arith, nat_tests);
+  some_row = grind (arith, nat_tests);
+  few_rows = grind (arith, nat_tests);
+  all = grind (arith, nat_tests);
+}
+
+-- what a result says, after its error was turned into another
+pub through_map_err : {T E D : Type 0} (P : T → Type 0) (Q : E → Type 0) (G : E → D → Type 0) (r : Result T E) (m : Result T D) →
+    MatchResult r P Q → MatchResult r (λ x. m ≡ Ok x) (λ e. IsErrAnd m (G e)) → MatchResult m P (λ d. (e : E) × Q e × G e d)
+through_map_err {E} P Q G (Ok x) m says turned = subst (λ o. MatchResult o P (λ d. (e : E) × Q e × G e d)) (sym turned) says
+through_map_err P Q G (Err e) (Ok x) says turned = absurd turned
+through_map_err P Q G (Err e) (Err d) says turned = (e, says, turned)
+
+pub cases_of_ok_iff : {T E : Type 0} (r : Result T E) (P : Type 0) (v : T) → OkIff r P v → MatchResult r (λ x. P × (x ≡ v)) (λ _. P → ⊥)
+cases_of_ok_iff {E} (Ok x) P v h = OkIff-at_ok {E = E} (Ok x) P v x h refl
+cases_of_ok_iff (Err e) P v h = OkIff-at_err (Err e) P v e h refl
 
 -- the first k rows are read into the tables
 pub record Sofar (b : Body) (k : ℕ) (rows : List Row) (lens : List ℕ) : Type 0 where
@@ -108,9 +68,7 @@ pub record Sofar (b : Body) (k : ℕ) (rows : List Row) (lens : List ℕ) : Type
   pub lengths : Measures b k lens
 
 pub getD_same : {X : Type 0} (n j : ℕ) (x : X) → get_or (replicate n x) j x ≡ x
-getD_same zero j x = refl
-getD_same (suc n) zero x = refl
-getD_same (suc n) (suc j) x = getD_same n j x
+getD_same n j x = grind (arith, common_steps)
 
 pub read_none : (b : Body) → Sofar b 0 (replicate 32 Always) (replicate 32 0)
 read_none b = record {
@@ -120,23 +78,18 @@ read_none b = record {
   lengths = record { size = refl; entry = λ j. getD_same 32 j 0 };
 }
 
-ltb_step : (j k : ℕ) → (j ≡ k → ⊥) → ltb j k ≡ ltb j (k + 1)
-ltb_step j k h = grind (arith, nat_tests)
+-- one row more in the table of rows
+rows_step : (row : ℕ → Row) (k : ℕ) (rows : List Row) (r : Row) → k < 32 → length rows ≡ 32 → ((j : ℕ) → get_or rows j Always ≡ cond (ltb j k) (row j) Always) → r ≡ row k → (j : ℕ) → get_or (set rows k r) j Always ≡ cond (ltb j (k + 1)) (row j) Always
+rows_step row k rows r few size old e j =
+    let before = old j in
+    ⊎_elim
+    (λ here. grind (arith, nat_tests, common_steps))
+    (λ other. grind (arith, nat_tests, common_steps, get_or-set_other rows k j r Always other))
+    (cases_eq j k)
 
 module _ (b : Body) (k : ℕ) (few : k < 32) where
-  rows_step : (rows : List Row) (row : Row) → length rows ≡ 32 → ((j : ℕ) → get_or rows j Always ≡ cond (ltb j k) (row_in b j) Always) → row ≡ row_in b k → (j : ℕ) → get_or (set rows k row) j Always ≡ cond (ltb j (k + 1)) (row_in b j) Always
-  rows_step rows row size old e j =
-      ⊎_elim
-      (λ same. ap (λ i. get_or (set rows k row) i Always) same ∙ get_or-set_same rows k row Always (omega arith) ∙ e ∙ ap (row_in b) (sym same) ∙ sym (cond-true _ _ _ (lt-ltb j (k + 1) (omega arith))))
-      (λ other. get_or-set_other rows k j row Always other ∙ old j ∙ ap (λ t. cond t (row_in b j) Always) (ltb_step j k other))
-      (cases_eq j k)
-
   push_other : (lower : List ℕ) (v j : ℕ) → length lower ≡ k → (j ≡ k → ⊥) → get_or lower j 0 ≡ get_or (lower ++ v ∷ []) j 0
-  push_other lower v j size other =
-      ⊎_elim
-      (λ less. sym (get_or_append_left lower (v ∷ []) 0 j (omega arith)))
-      (λ more. get_or_past lower j 0 (omega arith) ∙ sym (get_or_past (lower ++ v ∷ []) j 0 (omega (arith, length_push lower v))))
-      (cases_lt j k)
+  push_other lower v j size other = grind (arith, common_steps)
 
   lengths_step : (lens : List ℕ) (v : ℕ) → Measures b k lens → v ≡ length_of (row_in b) k → Measures b (k + 1) (set lens k v)
   lengths_step lens v m e =
@@ -156,13 +109,6 @@ module _ (b : Body) (k : ℕ) (few : k < 32) where
   read_more rows lens row v s none is long = record {
     fine = below_more _ _ s.fine none;
     size = length-set rows k row ∙ s.size;
-    row = rows_step rows row s.size s.row is;
+    row = rows_step (row_in b) k rows row few s.size s.row is;
     lengths = lengths_step lens v s.lengths long;
   }
-
-cond_twice : (t : Bool) (x y : Row) → cond t (cond t x y) y ≡ cond t x y
-cond_twice true x y = refl
-cond_twice false x y = refl
-
-pub read_all : (b : Body) (rows : List Row) (lens : List ℕ) → Sofar b b.count rows lens → AllRead b rows lens
-read_all b rows lens s = record { fine = s.fine; size = s.size; row = λ j. s.row j ∙ cond_twice (ltb j b.count) _ Always; lengths = s.lengths }

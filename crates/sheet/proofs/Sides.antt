@@ -1,7 +1,8 @@
 -- The sweep raises exactly the flags of the facts that chains of naming reach.
-use Rattle.std.proofs.Common.{◌≡◌, ℕ, suc, ◌-◌, ◌<◌, ◌≤◌, Bool, true, false, cond, not, ◌&&◌, ◌||◌, ◌⊎◌, List, length, get_or, take, set, replicate, Decides, sym, refl, ap, ◌∙◌, subst, inl, inr, ⊎_elim, arith}
+use Rattle.std.proofs.Common.{◌≡◌, ℕ, suc, ◌-◌, ◌<◌, ◌≤◌, Bool, true, false, cond, not, ◌&&◌, ◌||◌, ◌⊎◌, List, length, get_or, take, set, replicate, Decides, sym, ap, ◌∙◌, subst, inl, inr, ⊎_elim, arith}
 use Rattle.std.proofs.lemmas.List.{get_or-take, length-take-le, get_or-set_same, get_or-set_other}
-use Rattle.std.proofs.lemmas.Bool.{or_cases, or_left, or_right, and_parts, and_from, cases_eq, cases_Bool, both_ways, false≢true, cond-true, cond-false}
+use Rattle.std.proofs.lemmas.Bool.Decides.{nat_tests}
+use Rattle.std.proofs.lemmas.Bool.{or_cases, or_left, and_parts, and_from, cases_eq, cases_Bool, both_ways, cond-true, cond-false}
 use Rattle.sheet.specs.declared.row.Row.{Row}
 use Rattle.sheet.specs.declared.row.Row.TheVariants.{Always, Hold, HoldOff, Both, Either, Not, Then, Within}
 use Rattle.sheet.specs.declared.record.Sheet.{Sheet}
@@ -23,54 +24,32 @@ abbrev pub after : Row → Bool → Bool
 after row turned = turned_by (turns row) turned
 
 -- whether what is handed on from side p, turned or not, comes to side t
-on : (p t turned : Bool) → Bool
-on false false turned = not turned
-on false true turned = turned
-on true true turned = not turned
-on true false turned = turned
+abbrev on : (p t turned : Bool) → Bool
+on p t turned = cond (cond p t (not t)) (not turned) turned
 
 on_says : (p t turned : Bool) → on p t turned ≡ true → turned_by turned p ≡ t
-unfolding on
-on_says false false false h = refl
-on_says false false true h = absurd (false≢true h)
-on_says false true false h = absurd (false≢true h)
-on_says false true true h = refl
-on_says true true false h = refl
-on_says true true true h = absurd (false≢true h)
-on_says true false false h = absurd (false≢true h)
-on_says true false true h = refl
+on_says p t turned h = grind arith
 
 on_after : (p turned : Bool) → on p (turned_by turned p) turned ≡ true
-unfolding on
-on_after false false = refl
-on_after false true = refl
-on_after true false = refl
-on_after true true = refl
+on_after p turned = grind arith
 
 -- a row that turns and names a row is a not of it
 pub turning_names : (r : Row) (k : ℕ) → turns r ≡ true → has (named_by r) k ≡ true → r ≡ Not k
-turning_names Always k t h = absurd (false≢true t)
-turning_names (Hold duration fact) k t h = absurd (false≢true t)
-turning_names (HoldOff duration fact) k t h = absurd (false≢true h)
-turning_names (Both left right) k t h = absurd (false≢true t)
-turning_names (Either left right) k t h = absurd (false≢true t)
-turning_names (Not row) k t h = ap Not (only row k h)
-turning_names (Then left right) k t h = absurd (false≢true t)
-turning_names (Within from to row) k t h = absurd (false≢true t)
+turning_names r k t h = grind (arith, nat_tests)
 
 -- so a row that names another and is no not of it does not turn
 pub straight : (r : Row) (k : ℕ) → has (named_by r) k ≡ true → (r ≡ Not k → ⊥) → turns r ≡ false
-straight r k h other = ⊎_elim (λ t. absurd (other (turning_names r k t h))) (λ f. f) (cases_Bool (turns r))
+straight r k h other = grind (arith, nat_tests)
 
 reading : (r : Row) (f : ℕ) → has (facts_of r) f ≡ true → ((d : ℕ) × (r ≡ Hold d f)) ⊎ ((d : ℕ) × (r ≡ HoldOff d f))
-reading Always f h = absurd (false≢true h)
+reading Always f h = cc
 reading (Hold duration fact) f h = inl (duration, ap (Hold duration) (only fact f h))
 reading (HoldOff duration fact) f h = inr (duration, ap (HoldOff duration) (only fact f h))
-reading (Both left right) f h = absurd (false≢true h)
-reading (Either left right) f h = absurd (false≢true h)
-reading (Not row) f h = absurd (false≢true h)
-reading (Then left right) f h = absurd (false≢true h)
-reading (Within from to row) f h = absurd (false≢true h)
+reading (Both left right) f h = cc
+reading (Either left right) f h = cc
+reading (Not row) f h = cc
+reading (Then left right) f h = cc
+reading (Within from to row) f h = cc
 
 -- a row of a chain goes on to each row that it names, and reaches each fact that it reads
 module _ (row : ℕ → Row) (last : ℕ) where
@@ -113,7 +92,6 @@ Raises before after p reached turned names =
     × ((k : ℕ) → after (not p) k ≡ (before (not p) k || ((reached && turned) && has names k)))
 
 raised : (before after : Bool → ℕ → Bool) (p reached turned : Bool) (names : List ℕ) → Raises before after p reached turned names → (t : Bool) (k : ℕ) → after t k ≡ (before t k || ((reached && on p t turned) && has names k))
-unfolding on
 raised before after false reached turned names h false k = h.0 k
 raised before after false reached turned names h true k = h.1 k
 raised before after true reached turned names h true k = h.0 k
@@ -144,20 +122,13 @@ module _ (row : ℕ → Row) (last : ℕ) (Done : ℕ → Bool → Type 0) (i : 
 
     -- the row names no row that is done, nor itself
     same : (j : ℕ) (t : Bool) → i ≤ j → rows' t j ≡ true → rows t j ≡ true
-    same j t le e =
-        ⊎_elim (λ h. h)
-        (λ h. absurd (both_ways (has (named_by (row i)) j) (has_under i j (named_by (row i)) lower le) (and_parts (sent t) (has (named_by (row i)) j) h).1))
-        (or_cases (rows t j) (sent t && has (named_by (row i)) j) (sym (row_is t j) ∙ e))
+    same j t le e = let other = has_under i j (named_by (row i)) lower le in let is = row_is t j in grind arith
 
     row_here : (k : ℕ) → rows' p i ≡ true → has (named_by (row i)) k ≡ true → rows' (after (row i) p) k ≡ true
-    row_here k e h =
-        row_is (after (row i) p) k
-        ∙ or_right (rows (after (row i) p) k) (sent (after (row i) p) && has (named_by (row i)) k) (and_from (sent (after (row i) p)) (has (named_by (row i)) k) (sent_after (same i p (omega arith) e)) h)
+    row_here k e h = let sends = sent_after (same i p (omega arith) e) in let is = row_is (after (row i) p) k in grind arith
 
     fact_here : (f : ℕ) → rows' p i ≡ true → has (facts_of (row i)) f ≡ true → facts' (after (row i) p) f ≡ true
-    fact_here f e h =
-        fact_is (after (row i) p) f
-        ∙ or_right (facts (after (row i) p) f) (sent (after (row i) p) && has (facts_of (row i)) f) (and_from (sent (after (row i) p)) (has (facts_of (row i)) f) (sent_after (same i p (omega arith) e)) h)
+    fact_here f e h = let sends = sent_after (same i p (omega arith) e) in let is = fact_is (after (row i) p) f in grind arith
 
     at_here : (P : ℕ → Bool → Type 0) {j : ℕ} {t : Bool} → P i p → (j ≡ i) × (t ≡ p) → P j t
     at_here P {j} {t} h e = subst (λ x. P x t) (sym e.0) (subst (P i) (sym e.1) h)

@@ -1,61 +1,35 @@
 -- Rows written as bytes and read from them are the same rows, both ways.
-use Rattle.std.proofs.Common.{◌≡◌, ℕ, zero, suc, ◌+◌, ◌-◌, ◌*◌, ◌/◌, ◌%◌, ◌<◌, true, eqb, List, [], ◌∷◌, ◌++◌, map, length, get_or, sym, refl, ap, ◌∙◌, ⊎_elim, arith}
+use Rattle.std.proofs.Common.{◌≡◌, ℕ, zero, suc, ◌+◌, ◌-◌, ◌*◌, ◌/◌, ◌%◌, ◌<◌, true, List, [], ◌∷◌, ◌++◌, map, length, get_or, sym, refl, ap, ◌∙◌, subst, ⊎_elim, arith}
 use Rattle.std.specs.List.{flat_map}
-use Rattle.std.proofs.lemmas.List.{length-append, length-map, get_or_append_left, get_or-append_right, get_or-map, ext_get_or}
-use Rattle.std.proofs.lemmas.Bool.{and_parts, eqb-true, eq-eqb, and_from, cases_lt}
+use Rattle.std.proofs.lemmas.List.{get_or_append_left, get_or-append_right, ext_get_or}
+use Rattle.std.proofs.lemmas.Bool.{and_parts, and_from, cases_lt}
+use Rattle.std.proofs.lemmas.Bool.Decides.{nat_tests}
+use Rattle.std.proofs.lemmas.Grind.{common_steps}
 use Rattle.sheet.specs.declared.row.Row.{Row}
-use Rattle.sheet.specs.declared.row.Row.TheVariants.{Always, Hold, HoldOff, Both, Either, Not, Then, Within}
+use Rattle.sheet.specs.declared.row.Row.TheVariants.{Always}
 use Rattle.sheet.specs.Rows.{kind_of, operands_of}
-use Rattle.sheet.specs.Rules.{row_at}
-use Rattle.sheet.specs.Bytes.{kinds}
-use Rattle.sheet.specs.Loading.{same}
+use Rattle.sheet.specs.Rules.{row_at, in_range}
+use Rattle.sheet.specs.Bytes.{Body, operands_in, kinds, row_in}
+use Rattle.sheet.specs.Loading.{same, operands_right}
+use Rattle.sheet.specs.Conditions.{OperandsRight}
 
 pub three_operands : (row : Row) → length (operands_of row) ≡ 3
-three_operands Always = refl
-three_operands (Hold duration fact) = refl
-three_operands (HoldOff duration fact) = refl
-three_operands (Both left right) = refl
-three_operands (Either left right) = refl
-three_operands (Not row) = refl
-three_operands (Then left right) = refl
-three_operands (Within from to row) = refl
+three_operands row = grind arith
 
 -- the row of its own kind with its own operands is the row itself
 pub read_back : (row : Row) → get_or (kinds (get_or (operands_of row) 0 0) (get_or (operands_of row) 1 0) (get_or (operands_of row) 2 0)) (kind_of row) Always ≡ row
-read_back Always = refl
-read_back (Hold duration fact) = refl
-read_back (HoldOff duration fact) = refl
-read_back (Both left right) = refl
-read_back (Either left right) = refl
-read_back (Not row) = refl
-read_back (Then left right) = refl
-read_back (Within from to row) = refl
+read_back row = grind arith
 
 pub kind_below : (row : Row) → kind_of row < 8
-kind_below Always = omega arith
-kind_below (Hold duration fact) = omega arith
-kind_below (HoldOff duration fact) = omega arith
-kind_below (Both left right) = omega arith
-kind_below (Either left right) = omega arith
-kind_below (Not row) = omega arith
-kind_below (Then left right) = omega arith
-kind_below (Within from to row) = omega arith
+kind_below row = grind arith
 
 -- and a row that was read has the kind that it was read by
 pub kind_back : (p q r kind : ℕ) → kind < 8 → kind_of (get_or (kinds p q r) kind Always) ≡ kind
-kind_back p q r zero h = refl
-kind_back p q r (suc zero) h = refl
-kind_back p q r (suc (suc zero)) h = refl
-kind_back p q r (suc (suc (suc zero))) h = refl
-kind_back p q r (suc (suc (suc (suc zero)))) h = refl
-kind_back p q r (suc (suc (suc (suc (suc zero))))) h = refl
-kind_back p q r (suc (suc (suc (suc (suc (suc zero)))))) h = refl
-kind_back p q r (suc (suc (suc (suc (suc (suc (suc zero))))))) h = refl
-kind_back p q r (suc (suc (suc (suc (suc (suc (suc (suc n)))))))) h = absurd (omega arith)
+kind_back p q r kind h = grind (arith, common_steps)
 
 pub length_joined : (rows : List Row) → length (flat_map operands_of rows) ≡ 3 * length rows
 length_joined [] = refl
-length_joined (row ∷ rows) = length-append (operands_of row) (flat_map operands_of rows) ∙ omega (arith, three_operands row, length_joined rows)
+length_joined (row ∷ rows) = grind (arith, common_steps, three_operands row, length_joined rows)
 
 -- operand i of row k stands at place 3 k + i
 pub joined_at : (rows : List Row) (k i : ℕ) → k < length rows → i < 3 → get_or (flat_map operands_of rows) (3 * k + i) 0 ≡ get_or (operands_of (row_at rows k)) i 0
@@ -68,15 +42,13 @@ joined_at (row ∷ rows) (suc k) i h lt =
 
 module _ (rows : List Row) where
   pub written_kind : (k : ℕ) → k < length rows → get_or (map kind_of rows ++ flat_map operands_of rows) k 0 ≡ kind_of (row_at rows k)
-  written_kind k h = get_or_append_left (map kind_of rows) (flat_map operands_of rows) 0 k (omega (arith, length-map rows kind_of)) ∙ get_or-map kind_of rows k Always 0 h
+  written_kind k h = grind (arith, common_steps)
 
   pub written_operand : (k i : ℕ) → k < length rows → i < 3 → get_or (map kind_of rows ++ flat_map operands_of rows) (length rows + (3 * k + i)) 0 ≡ get_or (operands_of (row_at rows k)) i 0
-  written_operand k i h lt =
-      get_or-append_right (map kind_of rows) (flat_map operands_of rows) (length rows) (length rows + (3 * k + i)) 0 (length-map rows kind_of) (omega arith)
-      ∙ ap (λ n. get_or (flat_map operands_of rows) n 0) (omega arith) ∙ joined_at rows k i h lt
+  written_operand k i h lt = grind (arith, common_steps, joined_at rows k i h lt)
 
   pub written_length : length (map kind_of rows ++ flat_map operands_of rows) ≡ 4 * length rows
-  written_length = length-append (map kind_of rows) (flat_map operands_of rows) ∙ omega (arith, length-map rows kind_of, length_joined rows)
+  written_length = grind (arith, common_steps, length_joined rows)
 
   -- bytes that agree with the rows at each of these places are the rows written
   pub written_all : (rest : List ℕ) → length rest ≡ 4 * length rows → ((k : ℕ) → k < length rows → get_or rest k 0 ≡ kind_of (row_at rows k)) → ((k i : ℕ) → k < length rows → i < 3 → get_or rest (length rows + (3 * k + i)) 0 ≡ get_or (operands_of (row_at rows k)) i 0) → map kind_of rows ++ flat_map operands_of rows ≡ rest
@@ -93,12 +65,20 @@ module _ (rows : List Row) where
       ap (λ m. get_or (map kind_of rows ++ flat_map operands_of rows) m 0) (sym place) ∙ written_operand k i row third ∙ sym (operands-are k i row third) ∙ ap (λ m. get_or rest m 0) place)
       (cases_lt n (length rows)))
 
-pub same_true : (xs ys : List ℕ) → same xs ys ≡ true → xs ≡ ys
+same_true : (xs ys : List ℕ) → same xs ys ≡ true → xs ≡ ys
 same_true [] [] h = refl
-same_true [] (y ∷ ys) h = absurd (let e : ◌≡◌ {A = ℕ} 0 1 = cc in omega arith)
-same_true (x ∷ xs) [] h = absurd (let e : ◌≡◌ {A = ℕ} 0 1 = cc in omega arith)
-same_true (x ∷ xs) (y ∷ ys) h = let both = and_parts (eqb x y) (same xs ys) h in λ i. eqb-true x y both.0 i ∷ same_true xs ys both.1 i
+same_true [] (y ∷ ys) h = cc
+same_true (x ∷ xs) [] h = cc
+same_true (x ∷ xs) (y ∷ ys) h = grind (arith, nat_tests, same_true xs ys)
 
-pub true_same : (xs : List ℕ) → same xs xs ≡ true
+true_same : (xs : List ℕ) → same xs xs ≡ true
 true_same [] = refl
-true_same (x ∷ xs) = and_from (eqb x x) (same xs xs) (eq-eqb x x refl) (true_same xs)
+true_same (x ∷ xs) = grind (arith, nat_tests, true_same xs)
+
+-- the test of row k's operands, and what it says
+module _ (b : Body) (k : ℕ) where
+  pub operands_fit : operands_right b.facts k (row_in b k) (operands_in b k) ≡ true → OperandsRight b k
+  operands_fit h = let both = and_parts (same (operands_of (row_in b k)) (operands_in b k)) (in_range b.facts k (row_in b k)) h in (same_true _ _ both.0, both.1)
+
+  pub fit_operands : OperandsRight b k → operands_right b.facts k (row_in b k) (operands_in b k) ≡ true
+  fit_operands h = and_from (same (operands_of (row_in b k)) (operands_in b k)) (in_range b.facts k (row_in b k)) (subst (λ given. same (operands_of (row_in b k)) given ≡ true) h.0 (true_same (operands_of (row_in b k)))) h.1

@@ -1,14 +1,25 @@
 -- What the parts of load promise to one another.
-use Rattle.std.specs.Prelude.{◌≡◌, ℕ, ◌<◌, ◌≤◌, true, List, length, Some, None, Ok, Err, Result, slice_index, slice_index_or}
+use Rattle.std.specs.Prelude.{◌≡◌, ℕ, List, length, Some, None, Result, MatchResult, slice_index}
 use Rattle.refusal.specs.declared.Refusal.{Refusal}
+use Rattle.sheet.specs.declared.body.Body.{Body as Taken}
 use Rattle.sheet.specs.declared.fault.Fault.{Fault}
 use Rattle.sheet.specs.declared.row.Row.{Row}
-use Rattle.sheet.specs.declared.row.Row.TheVariants.{Always}
-use Rattle.sheet.specs.Rules.{lengths_of, length_of, all_under, row_at}
-use Rattle.sheet.specs.Rows.{named_by}
-use Rattle.sheet.specs.Bytes.{Body, row_in}
+use Rattle.sheet.specs.declared.draft.Draft.{Draft}
+use Rattle.sheet.specs.Rules.{lengths_of, length_of, row_at}
+use Rattle.sheet.specs.Bytes.{Body, body_of, row_in}
 use Rattle.sheet.specs.Loading.{row_fault}
 use Rattle.sheet.specs.Faults.{Faultless, Lowest}
+use Rattle.sheet.specs.Conditions.{KindRight, OperandsRight}
+
+-- what the code has as the bytes of a sheet
+abbrev pub body_in : Taken → Body
+body_in b = body_of b.facts b.count b.rest.now
+
+-- row k has a right kind and right operands, and is this one
+pub record Fits (b : Body) (k : ℕ) (row : Row) : Type 0 where
+  pub kind : KindRight b k
+  pub operands : OperandsRight b k
+  pub is : row ≡ row_in b k
 
 -- a table of 32 entries has the lengths of the first n rows, and 0 elsewhere
 pub record Measures (b : Body) (n : ℕ) (lens : List ℕ) : Type 0 where
@@ -17,21 +28,13 @@ pub record Measures (b : Body) (n : ℕ) (lens : List ℕ) : Type 0 where
 
 -- row k is read with its length, or refused by itself
 abbrev pub RowRead : Body → ℕ → Result (Row × ℕ) Refusal → Type 0
-RowRead b k (Ok x) = (row_fault b k ≡ None) × (x.0 ≡ row_in b k) × (x.1 ≡ length_of (row_in b) k)
-RowRead b k (Err r) = row_fault b k ≡ Some r
+RowRead b k r = MatchResult r (λ x. (row_fault b k ≡ None) × (x.0 ≡ row_in b k) × (x.1 ≡ length_of (row_in b) k)) (λ e. row_fault b k ≡ Some e)
 
 -- the rows are all read, or the lowest that is refused is named
-pub record AllRead (b : Body) (rows : List Row) (lens : List ℕ) : Type 0 where
+pub record AllRead (b : Body) (d : Draft) : Type 0 where
   pub fine : Faultless (row_fault b) b.count
-  pub size : length rows ≡ 32
-  pub row : (j : ℕ) → slice_index_or rows j Always ≡ row_in b j
-  pub lengths : Measures b b.count lens
+  pub count : d.count ≡ b.count
+  pub rows : (j : ℕ) → row_at d.rows j ≡ row_in b j
 
-abbrev pub RowsRead : Body → Result (List Row × List ℕ) Fault → Type 0
-RowsRead b (Ok x) = AllRead b x.0 x.1
-RowsRead b (Err f) = Lowest (row_fault b) b.count f.refusal f.row
-
--- the first rows of a table of 32 name only lower rows
-pub record Ordered (rows : List Row) (count : ℕ) : Type 0 where
-  pub few : count ≤ 32
-  pub lower : (k : ℕ) → k < count → all_under k (named_by (row_at rows k)) ≡ true
+abbrev pub RowsRead : Body → Result Draft Fault → Type 0
+RowsRead b r = MatchResult r (AllRead b) (λ f. Lowest (row_fault b) b.count f.refusal f.row)

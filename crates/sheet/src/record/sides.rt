@@ -1,12 +1,11 @@
 // Whether a sheet reaches some fact both plain and turned, found in one sweep from the last row down:
 // by the time that a row is come to, every row that could name it has been passed.
-ghost use Rattle.std.specs.Prelude.{◌≡◌, ◌<◌, true, false, Decides, slice_index_or};
-ghost use Rattle.sheet.specs.Rows.{facts_of, named_by};
-ghost use Rattle.sheet.specs.Rules.{all_under};
+ghost use Rattle.std.specs.Prelude.{false, Decides, slice_index_or};
 ghost use Rattle.sheet.specs.Sheets.{sheet_of};
 ghost use Rattle.sheet.specs.Sides.{OneSided};
 ghost use Rattle.sheet.specs.SideSteps.{HandedOn, FactsReached};
 
+use crate::placed::Placed;
 use crate::record::Sheet;
 use crate::row::Row;
 
@@ -18,23 +17,20 @@ struct Side {
     facts: [bool; 16],
 }
 
-impl Row {
-    // Raises what this row, row `at`, names and reads, if it is itself raised on the side `same`: on
-    // that side, or on the other if it turns what it names or reads.
-    fn hand_on(self, at: u8, same: &mut Side, other: &mut Side)
-        requires place { at < 32 }
-        requires rows { all_under at (named_by self) ≡ true }
-        requires facts { all_under 16 (facts_of self) ≡ true }
-        ensures { HandedOn self (slice_index_or same.old.rows at false) same.old other.old same.new other.new }
+impl Placed {
+    // Raises what this row names and reads, if it is itself raised on the side `same`: on that side, or
+    // on the other if it turns what it names or reads.
+    fn hand_on(self, same: &mut Side, other: &mut Side)
+        ensures { HandedOn self.row (slice_index_or same.old.rows self.at false) same.old other.old same.new other.new }
     {
-        if !same.rows[at as usize] {
+        if !same.rows[self.at as usize] {
             return;
         }
-        match self {
+        match self.row {
             Row::Hold { fact, .. } => same.facts[fact as usize] = true,
             Row::HoldOff { fact, .. } => other.facts[fact as usize] = true,
             Row::Not { row } => other.rows[row as usize] = true,
-            _ => self.raise_named(at, &mut same.rows),
+            _ => self.raise_named(&mut same.rows),
         }
     }
 }
@@ -51,9 +47,12 @@ impl Sheet {
         let mut turned = plain;
         plain.rows[self.count as usize - 1] = true;
         for k in (0..self.count).rev() {
-            let row = self.rows[k as usize];
-            row.hand_on(k, &mut plain, &mut turned);
-            row.hand_on(k, &mut turned, &mut plain);
+            let row = Placed {
+                row: self.rows[k as usize],
+                at: k,
+            };
+            row.hand_on(&mut plain, &mut turned);
+            row.hand_on(&mut turned, &mut plain);
         }
         (plain.facts, turned.facts)
     }
@@ -63,11 +62,9 @@ impl Sheet {
         ensures { Decides result (OneSided (sheet_of self.now)) }
     {
         let (plain, turned) = self.facts_reached();
-        for fact in 0..16 {
-            if plain[fact] && turned[fact] {
-                return false;
-            }
-        }
-        true
+        !plain
+            .iter()
+            .zip(&turned)
+            .any(|(plain, turned)| *plain && *turned)
     }
 }

@@ -31,7 +31,7 @@ impl Sheet {
         ensures rows { result.now ≡ (sheet_of self.now).rows }
         ensures keeps { Keeps (sheet_of self.now) }
     {
-        &self.rows[0..self.count as usize]
+        &self.rows[..self.count as usize]
     }
 
     // The length of each row.
@@ -39,7 +39,7 @@ impl Sheet {
         ensures count { length result.now ≡ length (sheet_of self.now).rows }
         ensures each { (k : ℕ) → k < length result.now → slice_index result.now k ≡ length_of (row_at (sheet_of self.now).rows) k }
     {
-        &self.lengths[0..self.count as usize]
+        &self.lengths[..self.count as usize]
     }
 
     // The length of the rule. A take has one frame more.

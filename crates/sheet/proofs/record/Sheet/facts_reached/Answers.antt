@@ -1,22 +1,10 @@
 use Rattle.std.proofs.Common.{◌≡◌, suc, ◌-◌, ◌<◌, false, get_or, sym, subst, arith}
 use Rattle.sheet.specs.SideSteps.{HandedOn}
-use Rattle.sheet.proofs.Sides.{Swept, swept_start, swept_more, swept_done, row_is_read, read_lower, read_few}
+use Rattle.sheet.proofs.Sides.{Swept, swept_start, swept_more, swept_done, row_is_read}
 use Rattle.sheet.proofs.record.Sheet.facts_reached.Goals as goal
 
 pub loop-k-init : goal.loop-k-init
 loop-k-init c = swept_start c.args.self.now
-
-pub hand_on-requires : goal.hand_on-requires
-hand_on-requires c =
-    let s = c.args.self.now in
-    let within : c.loop-k.k - 1 < s.count = omega (arith, c.loop-k.auto.k, c.loop-k-test.true) in
-    record { place = omega (arith, s.few_rows); rows = read_lower s _ within; facts = read_few s _ within }
-
-pub hand_on-requires-in-loop-k : goal.hand_on-requires-in-loop-k
-hand_on-requires-in-loop-k c =
-    let s = c.args.self.now in
-    let within : c.loop-k.k - 1 < s.count = omega (arith, c.loop-k.auto.k, c.loop-k-test.true) in
-    record { place = omega (arith, s.few_rows); rows = read_lower s _ within; facts = read_few s _ within }
 
 pub loop-k-preserved : goal.loop-k-preserved
 loop-k-preserved c =
