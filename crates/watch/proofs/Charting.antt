@@ -52,6 +52,12 @@ module _ {V : Type 0} {l : Lattice V} {p : Progress} {log : List V} {k : ℕ} {c
   window_there from to row e =
       leb-true from to (and_parts (all_under k (row ∷ [])) (leb from to) (and_parts true _ (right_row (Within from to row) e)).1).1
 
+  -- The places of a lower row stand before those of row k.
+  pub lower_room : (j n : ℕ) → j < k → n ≡ take_length p.sheet → j * n + n ≤ length chart
+  lower_room j n less n-is =
+      let room : k * n ≤ length chart = subst (λ m. k * m ≤ length chart) (sym n-is) ready.rows_room in
+      omega (arith, add-mul j 1 n, one-mul n, mul-le-mul_right n less)
+
   -- The rows below row k, in the front of a chart that is cut before its cells.
   pub ready_front : (front back : List (Span V)) → chart ≡ front ++ back → length front ≡ k * take_length p.sheet → Ready l p log k front
   ready_front front back cut size =

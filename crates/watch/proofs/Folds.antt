@@ -1,28 +1,23 @@
 -- A fold over a window is one over two windows, the one after the other.
-use Rattle.std.proofs.Common.{◌≡◌, ℕ, zero, suc, ◌+◌, ◌-◌, ◌<◌, ◌≤◌, sym, refl, ap, ◌∙◌, ap₂, add-zero, zero-add, add-one, arith}
+use Rattle.std.proofs.Common.{◌≡◌, ℕ, zero, suc, ◌+◌, ◌-◌, ◌<◌, ◌≤◌, sym, refl, ap, ◌∙◌, ap₂, add-zero, zero-add, arith}
 use Rattle.grade.specs.Lattice.{Lattice}
 use Rattle.formula.specs.Grades.{meet_over, join_over}
 use Rattle.watch.specs.Windows.{Folding, over}
 
--- the folds of a grade
-module _ {V : Type 0} (l : Lattice V) (at : ℕ → V) where
-  pub meets : (s n : ℕ) → over l.top l.meet at s n ≡ meet_over l at s n
-  meets s zero = refl
-  meets s (suc n) = ap (l.meet (at s)) (meets (suc s) n)
+-- the folds of a grade, of values that are the same place for place
+module _ {V : Type 0} (l : Lattice V) where
+  pub meets : (a b : ℕ → V) → ((t : ℕ) → a t ≡ b t) → (s n : ℕ) → over l.top l.meet a s n ≡ meet_over l b s n
+  meets a b same s zero = refl
+  meets a b same s (suc n) = ap₂ l.meet (same s) (meets a b same (suc s) n)
 
-  pub joins : (s n : ℕ) → over l.bottom l.join at s n ≡ join_over l at s n
-  joins s zero = refl
-  joins s (suc n) = ap (l.join (at s)) (joins (suc s) n)
+  pub joins : (a b : ℕ → V) (s s' n : ℕ) → ((i : ℕ) → i < n → a (s + i) ≡ b (s' + i)) → over l.bottom l.join a s n ≡ join_over l b s' n
+  joins a b s s' zero same = refl
+  joins a b s s' (suc n) same =
+      ap₂ l.join
+      (ap a (sym (add-zero s)) ∙ same 0 (omega arith) ∙ ap b (add-zero s'))
+      (joins a b (suc s) (suc s') n (λ i lt. ap a (omega arith) ∙ same (suc i) (omega arith) ∙ ap b (omega arith)))
 
 module _ {V : Type 0} (none : V) (combine : V → V → V) where
-  -- it rests on the values in the window
-  pub over_same : (a b : ℕ → V) (s s' n : ℕ) → ((i : ℕ) → i < n → a (s + i) ≡ b (s' + i)) → over none combine a s n ≡ over none combine b s' n
-  over_same a b s s' zero h = refl
-  over_same a b s s' (suc n) h =
-      ap₂ combine
-      (ap a (sym (add-zero s)) ∙ h 0 (omega arith) ∙ ap b (add-zero s'))
-      (over_same a b (suc s) (suc s') n (λ i lt. ap a (omega arith) ∙ h (suc i) (omega arith) ∙ ap b (omega arith)))
-
   -- one value more before it
   pub over_more : (at : ℕ → V) (start j end : ℕ) → j < end → combine (at (start + j)) (over none combine at (start + (j + 1)) (end - (j + 1))) ≡ over none combine at (start + j) (end - j)
   over_more at start j end less =

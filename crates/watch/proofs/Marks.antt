@@ -1,5 +1,5 @@
 -- A chart whose rows are written one after the other.
-use Rattle.std.proofs.Common.{◌≡◌, ℕ, ◌+◌, ◌-◌, ◌*◌, ◌<◌, ◌≤◌, List, length, get_or, None, sym, refl, ap, ◌∙◌, subst, ap₂, ⊎_elim, add-zero, mul-le-mul_right, arith}
+use Rattle.std.proofs.Common.{◌≡◌, ℕ, ◌+◌, ◌-◌, ◌*◌, ◌<◌, ◌≤◌, List, length, get_or, None, sym, refl, ap, ◌∙◌, subst, ap₂, ⊎_elim, mul-le-mul_right, arith}
 use lib.Arith.{digits_lt}
 use Rattle.std.proofs.lemmas.Bool.{cases_eq, cond-false, le-ltb}
 use Rattle.grade.specs.Lattice.{Lattice}

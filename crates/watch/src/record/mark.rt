@@ -20,18 +20,11 @@ impl Watch {
         requires room { length (progress_of self.now).sheet.rows * take_length (progress_of self.now).sheet ≤ length chart.old }
         ensures { RowCharted G.Grade.ops (progress_of self.now) log.now at chart.old chart.new }
     {
-        let frames = self.sheet.length() as usize + 1;
-        let length = self.sheet.lengths()[at];
-        if length <= self.sheet.length() {
+        let frames = self.frames();
+        let length = self.sheet.lengths()[at] as usize;
+        if length < frames {
             let (below, rest) = chart.split_at_mut(at * frames);
-            write_row(
-                self,
-                log,
-                at,
-                below,
-                row,
-                &mut rest[..frames - length as usize],
-            );
+            write_row(self, log, at, below, row, &mut rest[..frames - length]);
         }
     }
 
@@ -40,7 +33,7 @@ impl Watch {
     pub fn mark<G: Grade>(&self, log: &[G], chart: &mut [Span<G>]) -> Result<Mark<G>, Refusal>
         ensures { Marked G.Grade.ops (progress_of self.now) log.now chart.old chart.new result }
     {
-        let frames = self.sheet.length() as usize + 1;
+        let frames = self.frames();
         let rows = self.sheet.rows();
         if log.len() < self.sheet.facts() as usize * frames {
             return Err(Refusal::ShortLog);

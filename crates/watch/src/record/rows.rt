@@ -16,13 +16,6 @@ use crate::window::{fill, flips, pair, slide};
 use grade::{Grade, Span};
 use sheet::row::Row;
 
-// How many starts a row of this length has in a window.
-fn starts(from: u8, to: u8, length: u8) -> usize
-    ensures { result ≡ to + 1 - (from + length) }
-{
-    (to as usize + 1).saturating_sub(from as usize + length as usize)
-}
-
 // What row `at` is reckoned from: a watch, its log, and the cells of the rows below.
 #[derive(Drop)]
 pub(super) struct Basis<'a, G: Grade> {
@@ -46,16 +39,23 @@ impl<'a, G: Grade> Basis<'a, G> {
         }
     }
 
+    // The length of a lower row.
+    fn length(&self, row: u8) -> u8
+        requires { row < self.now.at }
+        ensures { result ≡ long (progress_of self.now.watch.now) row }
+    {
+        self.watch.sheet.lengths()[row as usize]
+    }
+
     // The cells of a lower row.
     fn row(&self, row: u8) -> &'a [Span<G>]
         requires { row < self.now.at }
         ensures size { length result.now ≡ take_length (progress_of self.now.watch.now).sheet - long (progress_of self.now.watch.now) row }
         ensures grades { Holds (row_span G.Grade.ops (progress_of self.now.watch.now) self.now.log.now row) result.now }
     {
-        let frames = self.watch.sheet.length() as usize + 1;
+        let frames = self.watch.frames();
         let first = row as usize * frames;
-        let length = self.watch.sheet.lengths()[row as usize];
-        let count = frames.saturating_sub(length as usize);
+        let count = frames.saturating_sub(self.length(row) as usize);
         &self.cells[first..first + count]
     }
 
@@ -75,7 +75,7 @@ impl<'a, G: Grade> Basis<'a, G> {
         requires size { length cells.old + to ≡ take_length (progress_of self.now.watch.now).sheet }
         ensures { Holds (λ s. join_over (spans G.Grade.ops) (row_span G.Grade.ops (progress_of self.now.watch.now) self.now.log.now row) (s + from) (to + 1 - (from + long (progress_of self.now.watch.now) row))) cells.new }
     {
-        let width = starts(from, to, self.watch.sheet.lengths()[row as usize]);
+        let width = (to as usize + 1).saturating_sub(from as usize + self.length(row) as usize);
         if width == 0 {
             fill(Span::bottom(), cells);
         } else {
@@ -107,7 +107,7 @@ impl<'a, G: Grade> Basis<'a, G> {
             Row::Either { left, right } => pair(Join, self.row(left), self.row(right), cells),
             Row::Not { row } => flips(self.row(row), cells),
             Row::Then { left, right } => {
-                let start = self.watch.sheet.lengths()[left as usize] as usize + 1;
+                let start = self.length(left) as usize + 1;
                 pair(Meet, self.row(left), self.row_from(right, start), cells);
             }
             Row::Within { from, to, row } => self.write_within(from, to, row, cells),

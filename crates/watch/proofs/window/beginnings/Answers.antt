@@ -1,4 +1,4 @@
-use Rattle.std.proofs.Common.{◌≡◌, ℕ, ◌+◌, get_or, ◌∙◌, ap, ap₂, arith, rules}
+use Rattle.std.proofs.Common.{◌≡◌, ◌+◌, get_or, ◌∙◌, arith, rules}
 use Rattle.std.proofs.lemmas.List.{get_or_default}
 use Rattle.watch.specs.Windows.{over}
 use Rattle.watch.proofs.Filling.{filled}
@@ -17,8 +17,8 @@ loop-j-preserved g c =
     record {
       head = head;
       done = λ i d less.
-          filled (λ i d. f.combine (get_or c.args.cells.now i d) (first (i + 1))) _ j _ (omega arith)
-          (λ d. c.combine.ensures ∙ ap₂ f.combine (get_or_default c.loop-j.cells j _ d (omega arith) ∙ so.rest j d (omega arith)) head)
+          filled (λ i d. f.combine (get_or c.args.cells.now i d) (first (i + 1))) c.loop-j.cells j c.combine.result (omega arith)
+          (λ d. let rest : get_or c.loop-j.cells j c.index-cells-j.result ≡ get_or c.args.cells.now j d = get_or_default c.loop-j.cells j c.index-cells-j.result d (omega arith) ∙ so.rest j d (omega arith) in cc)
           i d (λ apart. so.done i d (omega (arith, apart)));
       rest = λ i d low. search rules;
     }

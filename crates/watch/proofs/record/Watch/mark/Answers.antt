@@ -1,4 +1,4 @@
-use Rattle.std.proofs.Common.{◌≡◌, ◌+◌, ◌-◌, ◌*◌, ◌<◌, ◌≤◌, length, get_or, ap, ◌∙◌, subst, ap₂, rules, arith}
+use Rattle.std.proofs.Common.{◌≡◌, ◌*◌, ◌≤◌, length, get_or, ap, ◌∙◌, subst, ap₂, arith}
 use Rattle.std.proofs.lemmas.List.{get_or_read, get_or-drop}
 use Rattle.grade.specs.Spans.{spans}
 use Rattle.watch.specs.Feeding.{progress_of, take_length}
@@ -8,7 +8,7 @@ use Rattle.watch.proofs.record.Watch.mark.Goals as goal
 pub mark_row-requires-clause-ready : goal.mark_row-requires-clause-ready
 mark_row-requires-clause-ready g c =
     let p = progress_of c.args.self.now in
-    let n_is = ap (λ m. m + 1) c.length.ensures in
+    let n_is = c.frames-frames.ensures in
     let log : p.sheet.facts * take_length p.sheet ≤ length c.args.log.now = subst (λ m. m ≤ length c.args.log.now) (ap₂ ◌*◌ c.facts.ensures n_is) c.if-log-facts.false in
     let chart : length p.sheet.rows * take_length p.sheet ≤ length c.args.chart.now = subst (λ m. m ≤ length c.args.chart.now) (ap₂ ◌*◌ (ap length c.rows-rows.ensures.rows) n_is) c.if-chart-rows.false in
     ready_from g.G.Grade.ops p c.args.log.now c.loop-at.at c.args.chart.now c.loop-at.chart c.rows-rows.ensures.keeps log chart
@@ -22,7 +22,7 @@ returns g c =
     let l = g.G.Grade.ops in
     let p = progress_of c.args.self.now in
     let log = c.args.log.now in
-    let n_is = ap (λ m. m + 1) c.length.ensures in
+    let n_is = c.frames-frames.ensures in
     let rows_is = ap length c.rows-rows.ensures.rows in
     let some = c.rows-rows.ensures.keeps.some_row in
     let end : c.loop-at.at ≡ length p.sheet.rows = omega (arith, rows_is) in

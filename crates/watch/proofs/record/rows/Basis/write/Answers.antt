@@ -1,4 +1,4 @@
-use Rattle.std.proofs.Common.{◌≡◌, ℕ, ◌+◌, ◌-◌, get_or, sym, ap, ◌∙◌, ap₂, add-one, arith}
+use Rattle.std.proofs.Common.{◌≡◌, ℕ, ◌+◌, ◌-◌, sym, ap, ◌∙◌, add-one, arith}
 use Rattle.grade.specs.Spans.{spans}
 use Rattle.formula.specs.Formula.{horizon}
 use Rattle.formula.specs.Grades.{meet_over, join_over}
@@ -9,8 +9,8 @@ use Rattle.rule.proofs.Trees.{horizon_length}
 use Rattle.watch.specs.Feeding.{progress_of}
 use Rattle.watch.specs.Marking.{seen, row_span}
 use Rattle.watch.specs.Cells.{long}
-use Rattle.watch.proofs.Folds.{meets, over_same}
-use Rattle.watch.proofs.Charting.{span_is, long_is, facts_there, named_lower}
+use Rattle.watch.proofs.Folds.{meets}
+use Rattle.watch.proofs.Charting.{span_is, long_is, named_lower}
 use Rattle.watch.proofs.record.rows.Basis.write.Goals as goal
 
 pub pair-requires : goal.pair-requires
@@ -32,10 +32,8 @@ pair-requires-in-Either g c =
 pub flips-requires : goal.flips-requires
 flips-requires g c = omega (arith, long_is c.args.self.now.ready _ (sym c.in-Not.is ∙ c.requires.row))
 
-pub bounds-lengths-left : goal.bounds-lengths-left
-bounds-lengths-left g c =
-    let ready = c.args.self.now.ready in
-    omega (arith, c.lengths.ensures.count, ready.among, named_lower ready _ (sym c.in-Then.is ∙ c.requires.row) _ (has_left _ c.in-Then.right))
+pub length-requires : goal.length-requires
+length-requires g c = named_lower c.args.self.now.ready _ (sym c.in-Then.is ∙ c.requires.row) _ (has_left _ c.in-Then.right)
 
 pub row-requires-in-Then : goal.row-requires-in-Then
 row-requires-in-Then g c = named_lower c.args.self.now.ready _ (sym c.in-Then.is ∙ c.requires.row) _ (has_left _ c.in-Then.right)
@@ -44,21 +42,15 @@ pub row_from-requires : goal.row_from-requires
 row_from-requires g c =
     let ready = c.args.self.now.ready in
     let e = sym c.in-Then.is ∙ c.requires.row in
-    let lower = named_lower ready _ e c.in-Then.left (has_left _ c.in-Then.right) in
-    let first = c.lengths.ensures.each c.in-Then.left (omega (arith, c.lengths.ensures.count, ready.among, lower)) in
     record {
       row = named_lower ready _ e _ (has_right c.in-Then.left _);
-      start = omega (arith, long_is ready _ e, first, c.requires.size);
+      start = omega (arith, long_is ready _ e, c.requires.size);
     }
 
 pub pair-requires-in-Then : goal.pair-requires-in-Then
 pair-requires-in-Then g c =
-    let ready = c.args.self.now.ready in
-    let e = sym c.in-Then.is ∙ c.requires.row in
-    let lower = named_lower ready _ e c.in-Then.left (has_left _ c.in-Then.right) in
-    let first = c.lengths.ensures.each c.in-Then.left (omega (arith, c.lengths.ensures.count, ready.among, lower)) in
-    let here = long_is ready _ e in
-    record { left = omega (arith, here, first); right = omega (arith, here, first) }
+    let here = long_is c.args.self.now.ready _ (sym c.in-Then.is ∙ c.requires.row) in
+    record { left = omega (arith, here); right = omega (arith, here) }
 
 pub write_within-requires : goal.write_within-requires
 write_within-requires g c =
@@ -78,17 +70,16 @@ returns-in-Hold g c s d less =
     let self = c.args.self.now in
     let l = spans g.G.Grade.ops in
     let at = λ (t : ℕ). seen g.G.Grade.ops (progress_of self.watch.now) self.log.now t c.in-Hold.fact in
-    let n = c.in-Hold.duration + 1 in
-    c.slide.ensures s d less ∙ over_same l.top l.meet _ at s s n (λ i _. c.fact.ensures (s + i)) ∙ meets l at s n ∙ ap (meet_over l at s) (add-one c.in-Hold.duration)
-    ∙ span_is self.ready _ (sym c.in-Hold.is ∙ c.requires.row) s
+    let width = add-one c.in-Hold.duration in
+    c.slide.ensures s d less ∙ meets l _ at c.fact.ensures s (c.in-Hold.duration + 1) ∙ ap (meet_over l at s) width ∙ span_is self.ready _ (sym c.in-Hold.is ∙ c.requires.row) s
 
 pub returns-in-HoldOff : goal.returns-in-HoldOff
 returns-in-HoldOff g c s d less =
     let self = c.args.self.now in
     let l = spans g.G.Grade.ops in
     let at = λ (t : ℕ). l.flip (seen g.G.Grade.ops (progress_of self.watch.now) self.log.now t c.in-HoldOff.fact) in
-    let n = c.in-HoldOff.duration + 1 in
-    c.slide-in-HoldOff.ensures s d less ∙ over_same l.top l.meet _ at s s n (λ i _. ap l.flip (c.fact-in-HoldOff.ensures (s + i))) ∙ meets l at s n ∙ ap (meet_over l at s) (add-one c.in-HoldOff.duration)
+    let width = add-one c.in-HoldOff.duration in
+    c.slide-in-HoldOff.ensures s d less ∙ meets l _ at (λ t. ap l.flip (c.fact-in-HoldOff.ensures t)) s (c.in-HoldOff.duration + 1) ∙ ap (meet_over l at s) width
     ∙ span_is self.ready _ (sym c.in-HoldOff.is ∙ c.requires.row) s
 
 pub returns-in-Both : goal.returns-in-Both
@@ -108,11 +99,9 @@ returns-in-Then g c s d less =
     let self = c.args.self.now in
     let p = progress_of self.watch.now in
     let e = sym c.in-Then.is ∙ c.requires.row in
-    let lower = named_lower self.ready _ e c.in-Then.left (has_left _ c.in-Then.right) in
-    let first = c.lengths.ensures.each c.in-Then.left (omega (arith, c.lengths.ensures.count, self.ready.among, lower)) in
     let at = row_span g.G.Grade.ops p self.log.now in
     let ahead = horizon_length (row_at p.sheet.rows) c.in-Then.left in
-    let start : s + (get_or c.lengths.result.now c.in-Then.left 0 + 1) ≡ s + horizon (formula_at p.sheet c.in-Then.left) + 1 = omega (arith, first, ahead) in
+    let start : s + (c.length.result + 1) ≡ s + horizon (formula_at p.sheet c.in-Then.left) + 1 = omega (arith, ahead) in
     c.pair-in-Then.ensures _ _ c.row-in-Then.ensures.grades c.row_from.ensures.grades s d less
     ∙ ap (λ t. (spans g.G.Grade.ops).meet (at c.in-Then.left s) (at c.in-Then.right t)) start
     ∙ span_is self.ready _ e s

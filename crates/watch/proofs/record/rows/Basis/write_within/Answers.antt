@@ -4,7 +4,7 @@ use Rattle.formula.specs.Grades.{join_over}
 use Rattle.watch.specs.Feeding.{progress_of}
 use Rattle.watch.specs.Marking.{row_span}
 use Rattle.watch.specs.Cells.{long}
-use Rattle.watch.proofs.Folds.{joins, over_same}
+use Rattle.watch.proofs.Folds.{joins}
 use Rattle.watch.proofs.record.rows.Basis.write_within.Goals as goal
 
 pub returns-else-width-eq0 : goal.returns-else-width-eq0
@@ -14,11 +14,11 @@ returns-else-width-eq0 g c s d less =
     let l = spans g.G.Grade.ops in
     let at = row_span g.G.Grade.ops p self.log.now c.args.row in
     let from = s + c.args.from in
-    let part = c.lengths.ensures.each c.args.row (omega (arith, c.lengths.ensures.count, self.ready.among)) in
-    let width : c.starts-width.result ≡ c.args.to + 1 - (c.args.from + long p c.args.row) = omega (arith, part) in
+    let count = c.saturating_sub-width.result in
+    let width : count ≡ c.args.to + 1 - (c.args.from + long p c.args.row) = omega arith in
     c.slide.ensures s d less
-    ∙ over_same l.bottom l.join _ at s from c.starts-width.result
+    ∙ joins l _ at s from count
     (λ i within.
     let sum : s + i + c.args.from ≡ from + i = omega arith in
     c.row_from.ensures.grades (s + i) l.bottom (omega (arith, width, within)) ∙ ap at sum)
-    ∙ joins l at from c.starts-width.result ∙ ap (join_over l at from) width
+    ∙ ap (join_over l at from) width
