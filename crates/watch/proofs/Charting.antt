@@ -1,7 +1,9 @@
 -- A row's grades from the facts or from the cells of the rows below it.
-use Rattle.std.proofs.Common.{◌≡◌, ℕ, ◌+◌, ◌-◌, ◌*◌, ◌<◌, ◌≤◌, true, leb, List, [], ◌∷◌, length, get_or, sym, ap, ◌∙◌, subst, add-zero, mul-le-mul_right, add-mul, one-mul, arith}
+use Rattle.std.proofs.Common.{◌≡◌, ℕ, ◌+◌, ◌-◌, ◌*◌, ◌<◌, ◌≤◌, true, leb, List, [], ◌∷◌, ◌++◌, length, get_or, drop, sym, refl, ap, ap₂, ◌∙◌, ⊎_elim, subst, mul-le-mul_right, add-mul, one-mul, arith}
+use lib.Arith.{digits_lt}
+use Rattle.std.proofs.lemmas.List.{length-append, length-drop, get_or_append_left, get_or-append-add, get_or-append_right, get_or-drop}
 use mathlib.Core.Path.{fun_ext}
-use Rattle.std.proofs.lemmas.Bool.{and_parts, leb-true}
+use Rattle.std.proofs.lemmas.Bool.{and_parts, leb-true, cases_lt}
 use Rattle.grade.specs.Lattice.{Lattice}
 use Rattle.grade.specs.Spans.{spans}
 use Rattle.grade.specs.declared.span.Span.{Span}
@@ -20,12 +22,8 @@ use Rattle.rule.proofs.Rules.{rows_are_formulas}
 use Rattle.rule.proofs.Trees.{horizon_by_named}
 use Rattle.watch.specs.Feeding.{Progress, take_length}
 use Rattle.watch.specs.Marking.{seen, row_span}
+use Rattle.watch.specs.Windows.{Holds}
 use Rattle.watch.specs.Cells.{long, Ready, RowCharted}
-use Rattle.watch.specs.Windows.{Swept}
-
--- s places of row k stand before `count` rows of n places end
-inside : (n k s count : ℕ) → k < count → s ≤ n → k * n + s ≤ count * n
-inside n k s count less h = omega (arith, add-mul k 1 n, one-mul n, mul-le-mul_right n less)
 
 module _ {V : Type 0} {l : Lattice V} {p : Progress} {log : List V} {k : ℕ} {chart : List (Span V)} (ready : Ready l p log k chart) where
   step : (r : Row) → r ≡ row_at p.sheet.rows k → formula_at p.sheet k ≡ tree_of (formula_at p.sheet) r
@@ -54,38 +52,58 @@ module _ {V : Type 0} {l : Lattice V} {p : Progress} {log : List V} {k : ℕ} {c
   window_there from to row e =
       leb-true from to (and_parts (all_under k (row ∷ [])) (leb from to) (and_parts true _ (right_row (Within from to row) e)).1).1
 
-  -- so many values from start s of a lower row on stand below row k, in a chart of n frames
-  pub below_row : (n place first i s count : ℕ) → n ≡ take_length p.sheet → place ≡ i * n + s → first ≡ k * n + 0 → i < k → s + count ≤ take_length p.sheet → place + count ≤ first
-  below_row n place first i s count n-is place_is first-is less h = omega (arith, place_is, first-is, inside n i (s + count) k less (omega (arith, h, n-is)))
+  -- The places of a lower row stand before those of row k.
+  pub lower_room : (j n : ℕ) → j < k → n ≡ take_length p.sheet → j * n + n ≤ length chart
+  lower_room j n less n-is =
+      let room : k * n ≤ length chart = subst (λ m. k * m ≤ length chart) (sym n-is) ready.rows_room in
+      omega (arith, add-mul j 1 n, one-mul n, mul-le-mul_right n less)
 
-  -- and those of row k within the chart
-  pub room_row : (n first count : ℕ) → n ≡ take_length p.sheet → first ≡ k * n + 0 → count ≤ take_length p.sheet → first + count ≤ length chart
-  room_row n first count n-is first-is h =
-      let here : first ≡ k * take_length p.sheet + 0 = first-is ∙ ap (λ m. k * m + 0) n-is in
-      omega (arith, here, inside (take_length p.sheet) k count (length p.sheet.rows) ready.among h, ready.chart_room)
-
-  -- row k is charted once its cells hold its grades
-  pub charted_from : (n first count len : ℕ) (one : ℕ → Span V → Span V) (after : List (Span V)) → n ≡ take_length p.sheet → first ≡ k * n + 0 → len ≡ long p k → count ≡ n - len
-      → Swept first 0 count one chart after → ((s : ℕ) (d : Span V) → s + long p k ≤ rule_length p.sheet → one s d ≡ row_span l p log k s) → RowCharted l p log k chart after
-  charted_from n first count len one after n-is first-is len_is count_is so is =
-      let here : first ≡ k * take_length p.sheet = first-is ∙ ap (λ m. k * m + 0) n-is ∙ add-zero (k * take_length p.sheet) in
+  -- The rows below row k, in the front of a chart that is cut before its cells.
+  pub ready_front : (front back : List (Span V)) → chart ≡ front ++ back → length front ≡ k * take_length p.sheet → Ready l p log k front
+  ready_front front back cut size =
       record {
-        size = so.size;
-        cells = λ s d h. ap (λ i. get_or after (i + s) d) (sym here) ∙ so.cells s d (omega arith) (omega (arith, h, n-is, len_is, count_is)) ∙ is s d h;
-        others = λ i d h. so.rest i d (λ s lo hi e. h s (omega (arith, hi, n-is, len_is, count_is)) (omega (arith, e, here)));
+        keeps = ready.keeps;
+        log_room = ready.log_room;
+        among = ready.among;
+        rows_room = omega (arith, size);
+        cells = λ j s d less h.
+            let inside : j * take_length p.sheet + s < length front = omega (arith, digits_lt less (late s j h), size) in
+            sym (get_or_append_left front back d (j * take_length p.sheet + s) inside) ∙ ap (λ c. get_or c (j * take_length p.sheet + s) d) (sym cut) ∙ ready.cells j s d less h;
       }
+    where
+      late : (s j : ℕ) → s + long p j ≤ rule_length p.sheet → s < take_length p.sheet
+      late s j h = omega arith
 
-  -- what stands t places on is the grade of the row t frames later
-  pub cell_from : (n place i s t u : ℕ) (d : Span V) → n ≡ take_length p.sheet → place ≡ i * n + s → i < k → s + t ≡ u → u + long p i ≤ rule_length p.sheet → get_or chart (place + t) d ≡ row_span l p log i u
-  cell_from n place i s t u d n-is place_is less sum h =
-      let here : place ≡ i * take_length p.sheet + s = place_is ∙ ap (λ m. i * m + s) n-is in
-      let there : place + t ≡ i * take_length p.sheet + u = omega (arith, here, sum) in
-      ap (λ m. get_or chart m d) there ∙ ready.cells i u d less h
+  -- Behind the cut there is room for a row.
+  pub back_room : (place : ℕ) (back : List (Span V)) → length p.sheet.rows * take_length p.sheet ≤ length chart → length back + place ≡ length chart → place ≡ k * take_length p.sheet → take_length p.sheet ≤ length back
+  back_room place back room size there =
+      let n = take_length p.sheet in
+      omega (arith, add-mul k 1 n, one-mul n, mul-le-mul_right n ready.among)
 
-  -- a table of lengths has those of row k and of the lower rows
-  pub table_long : (lens : List ℕ) → length lens ≡ length p.sheet.rows → k < length lens
-  table_long lens e = omega (arith, e, ready.among)
-
--- the frames of a take, from the length of the rule
-pub frames_is : (p : Progress) (one two : ℕ) → one ≡ two → two ≡ rule_length p.sheet → one + 1 ≡ take_length p.sheet
-frames_is p one two e h = ap (λ m. m + 1) (e ∙ h)
+  -- Row k is charted once its cells are written there.
+  pub row_charted : (count : ℕ) (front back own after : List (Span V)) → chart ≡ front ++ back → length front ≡ k * take_length p.sheet → length own ≡ count → count + long p k ≡ take_length p.sheet → count ≤ length back
+      → after ≡ front ++ (own ++ drop count back) → Holds (row_span l p log k) own → RowCharted l p log k chart after
+  row_charted count front back own after cut size own_size sum room now holds =
+      let past = own ++ drop count back in
+      let place = k * take_length p.sheet in
+      let same : length past ≡ length back = length-append own (drop count back) ∙ omega (arith, length-drop count back) in
+      record {
+        size = ap length now ∙ length-append front past ∙ ap (λ n. length front + n) same ∙ sym (length-append front back) ∙ ap length (sym cut);
+        cells = λ s d h.
+            let inside : s < length own = omega arith in
+            let there : place + s ≡ length front + s = omega arith in
+            ap₂ (λ xs i. get_or xs i d) now there ∙ get_or-append-add front past s d ∙ get_or_append_left own _ d s inside ∙ holds s d inside;
+        others = λ i d apart.
+            ap (λ xs. get_or xs i d) now
+            ∙ ⊎_elim
+            (λ before. get_or_append_left front past d i before ∙ sym (get_or_append_left front back d i before))
+            (λ after.
+            let j = i - length front in
+            let more : count ≤ j = ⊎_elim (λ less. absurd (apart j (omega arith) (omega arith))) (λ h. h) (cases_lt j count) in
+            let up : count + (j - count) ≡ j = omega arith in
+            get_or-append_right front past (length front) i d refl after
+            ∙ get_or-append_right own (drop count back) count j d own_size more ∙ get_or-drop count back (j - count) d ∙ ap (λ m. get_or back m d) up
+            ∙ sym (get_or-append_right front back (length front) i d refl after))
+            (cases_lt i (length front))
+            ∙ ap (λ xs. get_or xs i d) (sym cut);
+      }

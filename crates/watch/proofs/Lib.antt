@@ -1,6 +1,6 @@
-pub mod Blocks
 pub mod Charting
 pub mod Feeding
+pub mod Filling
 pub mod Frames
 pub mod Takes
 pub mod Laid
@@ -11,5 +11,3 @@ pub mod Answered
 pub mod Played
 pub mod Folds
 pub mod Marks
-pub mod Reading
-pub mod Sweeping

@@ -1,5 +1,5 @@
 -- A chart whose rows are written one after the other.
-use Rattle.std.proofs.Common.{◌≡◌, ℕ, ◌+◌, ◌-◌, ◌*◌, ◌<◌, ◌≤◌, List, length, get_or, None, sym, refl, ap, ◌∙◌, subst, ap₂, ⊎_elim, add-zero, arith}
+use Rattle.std.proofs.Common.{◌≡◌, ℕ, ◌+◌, ◌-◌, ◌*◌, ◌<◌, ◌≤◌, List, length, get_or, None, sym, refl, ap, ◌∙◌, subst, ap₂, ⊎_elim, mul-le-mul_right, arith}
 use lib.Arith.{digits_lt}
 use Rattle.std.proofs.lemmas.Bool.{cases_eq, cond-false, le-ltb}
 use Rattle.grade.specs.Lattice.{Lattice}
@@ -41,7 +41,7 @@ module _ {V : Type 0} (l : Lattice V) (p : Progress) (log : List V) where
   pub ready_from : (k : ℕ) (before now : List (Span V)) → Keeps p.sheet → p.sheet.facts * take_length p.sheet ≤ length log → length p.sheet.rows * take_length p.sheet ≤ length before
       → k < length p.sheet.rows → Sofar l p log k before now → Ready l p log k now
   ready_from k before now keeps log_room chart_room among so =
-      record { keeps = keeps; log_room = log_room; chart_room = omega (arith, so.size, chart_room); among = among; cells = so.cells }
+      record { keeps = keeps; log_room = log_room; rows_room = omega (arith, so.size, chart_room, mul-le-mul_right (take_length p.sheet) among); among = among; cells = so.cells }
 
   pub all_charted : (before after : List (Span V)) → Sofar l p log (length p.sheet.rows) before after → Charted l p log before after
   all_charted before after so =
@@ -52,18 +52,17 @@ module _ {V : Type 0} (l : Lattice V) (p : Progress) (log : List V) where
       }
 
   -- the first cell of the last row is the mark
-  pub last_cell : (n place : ℕ) (before after : List (Span V)) (d : Span V) → 1 ≤ length p.sheet.rows → n ≡ take_length p.sheet → place ≡ (length p.sheet.rows - 1) * n + 0
-      → Sofar l p log (length p.sheet.rows) before after → get_or after place d ≡ row_span l p log (length p.sheet.rows - 1) 0
-  last_cell n place before after d some n-is place_is so =
-      let here : place ≡ (length p.sheet.rows - 1) * take_length p.sheet + 0 = place_is ∙ ap (λ m. (length p.sheet.rows - 1) * m + 0) n-is in
-      ap (λ i. get_or after i d) here ∙ so.cells (length p.sheet.rows - 1) 0 d (omega arith) (omega arith)
+  pub last_cell : (rows n : ℕ) (before after : List (Span V)) (d : Span V) → 1 ≤ length p.sheet.rows → rows ≡ length p.sheet.rows → n ≡ take_length p.sheet → Sofar l p log (length p.sheet.rows) before after
+      → get_or after ((rows - 1) * n + 0) d ≡ row_span l p log (length p.sheet.rows - 1) 0
+  last_cell rows n before after d some rows_is n-is so =
+      let first : (rows - 1) * n + 0 ≡ (length p.sheet.rows - 1) * take_length p.sheet + 0 = ap₂ (λ r m. (r - 1) * m + 0) rows_is n-is in
+      ap (λ i. get_or after i d) first ∙ so.cells (length p.sheet.rows - 1) 0 d (omega arith) (omega arith)
 
 pub no_refusal : (p : Progress) (log chart : ℕ) → p.sheet.facts * take_length p.sheet ≤ log → length p.sheet.rows * take_length p.sheet ≤ chart → mark_refusal p log chart ≡ None
 no_refusal p log chart a b = cond-false _ _ _ (le-ltb log _ a) ∙ cond-false _ _ _ (le-ltb chart _ b)
 
--- what the two tests of a mark leave, at the sizes as they are reckoned
-pub enough_log : (p : Progress) (log facts n : ℕ) → facts ≡ p.sheet.facts → n ≡ take_length p.sheet → facts * n ≤ log → p.sheet.facts * take_length p.sheet ≤ log
-enough_log p log facts n facts-is n-is h = subst (λ m. m ≤ log) (ap₂ ◌*◌ facts-is n-is) h
-
-pub enough_chart : (p : Progress) (chart rows n place : ℕ) → rows ≡ length p.sheet.rows → n ≡ take_length p.sheet → place ≡ rows * n + 0 → place ≤ chart → length p.sheet.rows * take_length p.sheet ≤ chart
-enough_chart p chart rows n place rows_is n-is place_is h = subst (λ m. m ≤ chart) (place_is ∙ add-zero (rows * n) ∙ ap₂ ◌*◌ rows_is n-is) h
+-- and it stands in the chart
+pub last_inside : (p : Progress) (rows n chart : ℕ) → 1 ≤ length p.sheet.rows → rows ≡ length p.sheet.rows → n ≡ take_length p.sheet → rows * n ≤ chart → (rows - 1) * n < chart
+last_inside p rows n chart some rows_is n-is room =
+    let back : rows ≡ rows - 1 + 1 = omega arith in
+    omega (arith, ap (λ r. r * n) back)

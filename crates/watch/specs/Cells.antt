@@ -11,12 +11,12 @@ use Rattle.watch.specs.Marking.{row_span}
 abbrev pub long : Progress → ℕ → ℕ
 long p k = length_of (row_at p.sheet.rows) k
 
--- The log and the chart have room, row k is one of the sheet's, and the cells of the rows below it hold their grades.
+-- The log has room, row k is one of the sheet's, and the cells of the rows below it hold their grades.
 pub record Ready {V : Type 0} (l : Lattice V) (p : Progress) (log : List V) (k : ℕ) (chart : List (Span V)) : Type 0 where
   pub keeps : Keeps p.sheet
   pub log_room : p.sheet.facts * take_length p.sheet ≤ length log
-  pub chart_room : length p.sheet.rows * take_length p.sheet ≤ length chart
   pub among : k < length p.sheet.rows
+  pub rows_room : k * take_length p.sheet ≤ length chart
   pub cells : (j s : ℕ) (d : Span V) → j < k → s + long p j ≤ rule_length p.sheet → slice_index_or chart (j * take_length p.sheet + s) d ≡ row_span l p log j s
 
 -- The cells of row k are written, and no other place.

@@ -1,8 +1,8 @@
 pub mod Cells
 pub mod Feeding
+pub mod Lattices
 pub mod Marking
 pub mod Life
 pub mod Verdict
 pub mod Played
-pub mod Sources
 pub mod Windows

@@ -1,8 +1,9 @@
 // A watch: it holds a sheet, accepts frames, and marks what the rule can still come to.
 #![tactic(auto)]
 
+mod fold;
 pub mod judge;
 pub mod outcome;
 pub mod record;
-mod sweep;
+mod source;
 mod window;

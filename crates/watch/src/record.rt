@@ -7,7 +7,6 @@ use sheet::record::Sheet;
 mod feed;
 mod mark;
 mod rows;
-mod slide;
 mod start;
 
 #[derive(Clone, Copy)]

@@ -21,7 +21,7 @@ impl Watch {
         ensures { result ≡ feed_answer (progress_of self.now) log strip }
     {
         let facts = self.sheet.facts() as usize;
-        let frames = self.sheet.length() as usize + 1;
+        let frames = self.frames();
         let missing = frames - self.accepted as usize;
         if log < facts * frames {
             return Err(Refusal::ShortLog);

@@ -1,6 +1,6 @@
-// The beginning of a watch.
+// The beginning of a watch, and what it is asked.
 ghost use Rattle.std.specs.Prelude.{◌≡◌, ◌≤◌};
-ghost use Rattle.watch.specs.Feeding.{progress_of, begun};
+ghost use Rattle.watch.specs.Feeding.{progress_of, begun, take_length};
 ghost use Rattle.sheet.specs.Sheets.{sheet_of};
 
 use crate::record::Watch;
@@ -16,6 +16,13 @@ impl Watch {
             sheet: *sheet,
             accepted: 0,
         }
+    }
+
+    // How many frames a take has.
+    pub(super) fn frames(&self) -> usize
+        ensures { result ≡ take_length (progress_of self.now).sheet }
+    {
+        self.sheet.length() as usize + 1
     }
 
     // How many frames it has accepted.

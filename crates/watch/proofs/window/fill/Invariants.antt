@@ -1,5 +1,5 @@
-use Rattle.watch.specs.Windows.{Swept}
+use Rattle.std.proofs.Common.{◌≡◌, ℕ, ◌<◌, get_or}
 use Rattle.watch.proofs.window.fill.Given as goal
 
-abbrev pub invariant-loop-s : goal.invariant-loop-s
-invariant-loop-s g l = Swept l.to.first 0 l.s (λ _ _. l.value) l.initial.chart l.chart
+abbrev pub invariant-loop-cell : goal.invariant-loop-cell
+invariant-loop-cell g l = (i : ℕ) (d : _) → i < l.cell-index → get_or l.cells i d ≡ l.value
