@@ -1,21 +1,20 @@
 -- A row's grades from the facts or from the cells of the rows below it.
-use Rattle.std.proofs.Common.{◌≡◌, ℕ, ◌+◌, ◌-◌, ◌*◌, ◌<◌, ◌≤◌, true, leb, List, [], ◌∷◌, ◌++◌, length, get_or, drop, sym, refl, ap, ap₂, ◌∙◌, ⊎_elim, subst, mul-le-mul_right, add-mul, one-mul, arith}
+use Rattle.std.proofs.Common.{◌≡◌, ℕ, ◌+◌, ◌-◌, ◌*◌, ◌<◌, ◌≤◌, true, List, ◌++◌, length, get_or, drop, sym, refl, ap, ap₂, ◌∙◌, ⊎_elim, subst, mul-le-mul_right, add-mul, one-mul, arith}
 use lib.Arith.{digits_lt}
 use Rattle.std.proofs.lemmas.List.{length-append, length-drop, get_or_append_left, get_or-append-add, get_or-append_right, get_or-drop}
 use mathlib.Core.Path.{fun_ext}
-use Rattle.std.proofs.lemmas.Bool.{and_parts, leb-true, cases_lt}
+use Rattle.std.proofs.lemmas.Bool.{cases_lt}
 use Rattle.grade.specs.Lattice.{Lattice}
 use Rattle.grade.specs.Spans.{spans}
 use Rattle.grade.specs.declared.span.Span.{Span}
 use Rattle.formula.specs.Formula.{horizon}
 use Rattle.formula.specs.Grades.{grade}
-use Rattle.sheet.specs.Rows.{facts_of, named_by, row_length}
-use Rattle.sheet.specs.Rules.{has, all_under, in_range, row_at}
+use Rattle.sheet.specs.Rows.{named_by, row_length}
+use Rattle.sheet.specs.Rules.{has, in_range, row_at}
 use Rattle.sheet.specs.Sheets.{rule_length}
 use Rattle.sheet.specs.declared.row.Row.{Row}
-use Rattle.sheet.specs.declared.row.Row.TheVariants.{Within}
 use Rattle.sheet.proofs.Has.{has_lower}
-use Rattle.sheet.proofs.Reading.{range_facts, range_lower}
+use Rattle.sheet.proofs.Reading.{range_lower}
 use Rattle.rule.specs.Meaning.{formula_at}
 use Rattle.rule.specs.Trees.{tree_of}
 use Rattle.rule.proofs.Rules.{rows_are_formulas}
@@ -42,15 +41,8 @@ module _ {V : Type 0} {l : Lattice V} {p : Progress} {log : List V} {k : ℕ} {c
   right_row : (r : Row) → r ≡ row_at p.sheet.rows k → in_range p.sheet.facts k r ≡ true
   right_row r e = subst (λ x. in_range p.sheet.facts k x ≡ true) (sym e) (ready.keeps.right k ready.among)
 
-  pub facts_there : (r : Row) → r ≡ row_at p.sheet.rows k → (f : ℕ) → has (facts_of r) f ≡ true → f < p.sheet.facts
-  facts_there r e f h = has_lower p.sheet.facts (facts_of r) f (range_facts p.sheet.facts k r (right_row r e)) h
-
   pub named_lower : (r : Row) → r ≡ row_at p.sheet.rows k → (i : ℕ) → has (named_by r) i ≡ true → i < k
   named_lower r e i h = has_lower k (named_by r) i (range_lower p.sheet.facts k r (right_row r e)) h
-
-  pub window_there : (from to row : ℕ) → Within from to row ≡ row_at p.sheet.rows k → from ≤ to
-  window_there from to row e =
-      leb-true from to (and_parts (all_under k (row ∷ [])) (leb from to) (and_parts true _ (right_row (Within from to row) e)).1).1
 
   -- The places of a lower row stand before those of row k.
   pub lower_room : (j n : ℕ) → j < k → n ≡ take_length p.sheet → j * n + n ≤ length chart

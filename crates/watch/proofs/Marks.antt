@@ -1,5 +1,5 @@
 -- A chart whose rows are written one after the other.
-use Rattle.std.proofs.Common.{◌≡◌, ℕ, ◌+◌, ◌-◌, ◌*◌, ◌<◌, ◌≤◌, List, length, get_or, None, sym, refl, ap, ◌∙◌, subst, ap₂, ⊎_elim, mul-le-mul_right, arith}
+use Rattle.std.proofs.Common.{◌≡◌, ℕ, ◌+◌, ◌-◌, ◌*◌, ◌<◌, ◌≤◌, List, length, get_or, None, sym, ap, ◌∙◌, subst, ap₂, ⊎_elim, mul-le-mul_right, arith}
 use lib.Arith.{digits_lt}
 use Rattle.std.proofs.lemmas.Bool.{cases_eq, cond-false, le-ltb}
 use Rattle.grade.specs.Lattice.{Lattice}
@@ -17,9 +17,6 @@ pub record Sofar {V : Type 0} (l : Lattice V) (p : Progress) (log : List V) (k :
   pub others : (i : ℕ) (d : Span V) → ((j s : ℕ) → j < k → s + long p j ≤ rule_length p.sheet → j * take_length p.sheet + s ≡ i → ⊥) → get_or now i d ≡ get_or before i d
 
 module _ {V : Type 0} (l : Lattice V) (p : Progress) (log : List V) where
-  pub sofar_none : (before : List (Span V)) → Sofar l p log 0 before before
-  sofar_none before = record { size = refl; cells = λ j s d h. absurd (omega arith); others = λ i d h. refl }
-
   -- a cell of a lower row is none of row k
   apart : (j k s t : ℕ) → j < k → s + long p j ≤ rule_length p.sheet → k * take_length p.sheet + t ≡ j * take_length p.sheet + s → ⊥
   apart j k s t less h e =
@@ -58,11 +55,11 @@ module _ {V : Type 0} (l : Lattice V) (p : Progress) (log : List V) where
       let first : (rows - 1) * n + 0 ≡ (length p.sheet.rows - 1) * take_length p.sheet + 0 = ap₂ (λ r m. (r - 1) * m + 0) rows_is n-is in
       ap (λ i. get_or after i d) first ∙ so.cells (length p.sheet.rows - 1) 0 d (omega arith) (omega arith)
 
-pub no_refusal : (p : Progress) (log chart : ℕ) → p.sheet.facts * take_length p.sheet ≤ log → length p.sheet.rows * take_length p.sheet ≤ chart → mark_refusal p log chart ≡ None
-no_refusal p log chart a b = cond-false _ _ _ (le-ltb log _ a) ∙ cond-false _ _ _ (le-ltb chart _ b)
-
 -- and it stands in the chart
 pub last_inside : (p : Progress) (rows n chart : ℕ) → 1 ≤ length p.sheet.rows → rows ≡ length p.sheet.rows → n ≡ take_length p.sheet → rows * n ≤ chart → (rows - 1) * n < chart
 last_inside p rows n chart some rows_is n-is room =
     let back : rows ≡ rows - 1 + 1 = omega arith in
     omega (arith, ap (λ r. r * n) back)
+
+pub no_refusal : (p : Progress) (log chart : ℕ) → p.sheet.facts * take_length p.sheet ≤ log → length p.sheet.rows * take_length p.sheet ≤ chart → mark_refusal p log chart ≡ None
+no_refusal p log chart a b = cond-false _ _ _ (le-ltb log _ a) ∙ cond-false _ _ _ (le-ltb chart _ b)

@@ -1,8 +1,8 @@
 // The cells of a row, of any grade, from other cells place by place, or from the windows of a source.
 //
-// Windows are taken in blocks of as many as one of them is wide. A window then is the rest of its block and, but for the first, a
-// beginning of what comes next. The rests are folded from the block's end down, straight into the cells, and the beginnings from there
-// up: some three operations for a cell, however wide the window is, and no room beside the cells.
+// Windows are taken in blocks of as many starts as a window is wide. Each is then the rest of its block and, but for the first, a
+// beginning of the next. The rests are folded from the end down, straight into the cells, and the beginnings up: some three
+// operations for a cell, however wide the window is, and no room beside the cells.
 ghost use Rattle.std.specs.Prelude.{◌≡◌, ℕ, ◌+◌, ◌-◌, ◌^◌, ◌<◌, ◌≤◌, length};
 ghost use Rattle.watch.specs.Windows.{over, Holds};
 

@@ -18,11 +18,11 @@ use sheet::row::Row;
 
 // What row `at` is reckoned from: a watch, its log, and the cells of the rows below.
 #[derive(Drop)]
-pub(super) struct Basis<'a, G: Grade> {
-    pub watch: &'a Watch,
-    pub log: &'a [G],
-    pub at: usize,
-    pub cells: &'a [Span<G>],
+struct Basis<'a, G: Grade> {
+    watch: &'a Watch,
+    log: &'a [G],
+    at: usize,
+    cells: &'a [Span<G>],
     ghost ready: { Ready G.Grade.ops (progress_of watch.now) log.now at cells.now },
 }
 
@@ -87,7 +87,7 @@ impl<'a, G: Grade> Basis<'a, G> {
     }
 
     // Writes the cells of row `at`, which is `row`.
-    pub(super) fn write(&self, row: Row, cells: &mut [Span<G>])
+    fn write(&self, row: Row, cells: &mut [Span<G>])
         requires row { row ≡ row_at (progress_of self.now.watch.now).sheet.rows self.now.at }
         requires size { length cells.old + long (progress_of self.now.watch.now) self.now.at ≡ take_length (progress_of self.now.watch.now).sheet }
         ensures { Holds (row_span G.Grade.ops (progress_of self.now.watch.now) self.now.log.now self.now.at) cells.new }
@@ -115,7 +115,8 @@ impl<'a, G: Grade> Basis<'a, G> {
     }
 }
 
-// Writes the cells of row `at`, which is `row`, from those of the rows below it.
+// Writes the cells of row `at`, which is `row`, from those of the rows below it. The basis is made here and not where the chart is
+// split, since nothing would be known there of a chart that a struct had borrowed.
 pub(super) fn write_row<G: Grade>(
     watch: &Watch,
     log: &[G],
