@@ -1,8 +1,10 @@
 // The plain values of a scale beside the product's grades.
 use crate::dice::Dice;
-use crate::second::scale::Scale;
-use grade::{Grade, Margin, Voices};
+use crate::second::scale::{Pair, Scale};
+use grade::{Grade, Margin, Span, Voices};
+use refusal::Refusal;
 use std::alloc::{AllocError, Global};
+use watch::outcome::Mark;
 
 pub trait Played: Scale {
     type Of: Grade;
@@ -78,23 +80,41 @@ impl Played for i32 {
     }
 }
 
+// The ends of a span, as plain values.
+pub(crate) fn read_span<P: Played>(span: Span<P::Of>) -> Pair<P> {
+    Pair {
+        low: P::read(span.low),
+        high: P::read(span.high),
+    }
+}
+
+pub(crate) fn read_mark<P: Played>(mark: Result<Mark<P::Of>, Refusal>) -> Result<Pair<P>, Refusal> {
+    mark.map(|mark| read_span::<P>(mark.span))
+}
+
 // So many values.
 pub(crate) fn drawn_take<P: Played>(
     heap: Global,
     dice: &mut Dice,
     count: usize,
 ) -> Result<Vec<P>, AllocError> {
-    let mut take = Vec::new(heap);
-    for _ in 0..count {
-        take.push(P::drawn(dice))?;
-    }
-    Ok(take)
+    (0..count).map(|_| P::drawn(dice)).collect(heap)
+}
+
+// So many spans that hold anything.
+pub(crate) fn drawn_spans<P: Played>(
+    heap: Global,
+    dice: &mut Dice,
+    count: usize,
+) -> Result<Vec<Pair<P>>, AllocError> {
+    (0..count)
+        .map(|_| Pair {
+            low: P::drawn(dice),
+            high: P::drawn(dice),
+        })
+        .collect(heap)
 }
 
 pub(crate) fn graded_all<P: Played>(heap: Global, values: &[P]) -> Result<Vec<P::Of>, AllocError> {
-    let mut grades = Vec::new(heap);
-    for value in values {
-        grades.push(value.graded())?;
-    }
-    Ok(grades)
+    values.iter().map(|value| value.graded()).collect(heap)
 }
