@@ -207,19 +207,12 @@ impl Draft {
     pub(crate) fn bytes(&self, heap: Global) -> Result<Vec<u8>, AllocError> {
         let rows = u8::try_from(self.rows.len()).unwrap_or(u8::MAX);
         let mut bytes = vec![in heap; self.shape.facts, rows]?;
-        bytes.extend(self.rows.iter().map(|row| row.kind()))?;
+        bytes.extend(self.rows.iter().map(|row| row.task.kind()))?;
         for row in self.rows.iter() {
             let [_, p, q, r]: [u8; 4] = row.task.into();
             bytes.extend_from_slice(&[p, q, r])?;
         }
         Ok(bytes)
-    }
-}
-
-impl Sketch {
-    fn kind(&self) -> u8 {
-        let [kind, _, _, _]: [u8; 4] = self.task.into();
-        kind
     }
 }
 

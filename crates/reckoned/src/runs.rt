@@ -2,7 +2,6 @@
 use crate::bench::Bench;
 use crate::cases::carried::Carried;
 use crate::cases::played::drawn_take;
-use crate::cases::stage::Stage;
 use crate::draft::Draft;
 use crate::finding::Stop;
 use crate::second::scale::Scale;
@@ -110,20 +109,12 @@ impl Runs {
         Ok(())
     }
 
-    fn answer(&mut self, take: &[bool]) -> Result<(), Stop> {
-        let bench = &mut self.bench;
-        let mut stage = Stage::new(bench, take)?;
-        stage.play(bench, 2)?;
-        stage.complete(bench)?;
-        bench.same_meaning(take)
-    }
-
     fn answers_of(&mut self, bytes: &[u8], times: u32) -> anyhow::Result<()> {
         self.load(bytes)?;
         for _ in 0..times {
             let take = self.bench.mixed_take()?;
             self.bench.count_take();
-            let outcome = self.answer(take.as_slice());
+            let outcome = self.bench.same_answers(take.as_slice());
             self.noted(bytes, take.as_slice(), outcome)?;
         }
         Ok(())

@@ -31,6 +31,18 @@ pub(crate) fn count(number: &mut u64) {
     *number = number.saturating_add(1);
 }
 
+// How many there were by each number, from the first that there is.
+fn fmt_counts<W: fmt::Write>(
+    f: &mut fmt::Formatter<W>,
+    counts: &[u64],
+    first: usize,
+) -> fmt::Result {
+    for (number, times) in counts.iter().enumerate().skip(first) {
+        write!(f, " {number}:{times}")?;
+    }
+    Ok(())
+}
+
 impl Tally {
     pub(crate) fn new() -> Tally {
         Tally {
@@ -61,8 +73,7 @@ impl Tally {
 
     pub(crate) fn count_kinds(&mut self, reading: &Reading) {
         for line in reading.lines.iter() {
-            let [kind, _, _, _]: [u8; 4] = line.task().into();
-            if let Some(place) = self.kinds.get_mut(usize::from(kind)) {
+            if let Some(place) = self.kinds.get_mut(usize::from(line.task().kind())) {
                 count(place);
             }
         }
@@ -77,14 +88,9 @@ impl Tally {
             ..
         } = self;
         write!(f, "sheets {sheets}, good {good}, with rows")?;
-        for (kind, times) in self.kinds.iter().enumerate() {
-            write!(f, " {kind}:{times}")?;
-        }
+        fmt_counts(f, &self.kinds, 0)?;
         write!(f, ", one-sided {one_sided}, by chains {chained}, refused")?;
-        for (number, times) in self.refused.iter().enumerate().skip(1) {
-            write!(f, " {number}:{times}")?;
-        }
-        Ok(())
+        fmt_counts(f, &self.refused, 1)
     }
 
     fn fmt_takes<W: fmt::Write>(&self, f: &mut fmt::Formatter<W>) -> fmt::Result {

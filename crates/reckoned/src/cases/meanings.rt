@@ -1,6 +1,7 @@
 // Complete takes of yes and no, by the published meaning.
 use crate::bench::Bench;
 use crate::cases::played::read_mark;
+use crate::cases::stage::Stage;
 use crate::finding::{Stop, What, same};
 use crate::second::meaning::meets;
 use crate::second::scale::Pair;
@@ -32,7 +33,7 @@ impl Bench {
         Ok(read_mark::<bool>(settle(&watch, log.as_slice(), chart.as_mut_slice())))
     }
 
-    pub(crate) fn same_meaning(&mut self, take: &[bool]) -> Result<(), Stop> {
+    fn same_meaning(&mut self, take: &[bool]) -> Result<(), Stop> {
         let settled = self.settled(take)?;
         let met = meets(self.heap, &self.reading, take)?;
         count(if met {
@@ -45,5 +46,12 @@ impl Bench {
             high: met,
         };
         same(What::Meaning, 0, settled, reckoned)
+    }
+    // One take, step by step, with the published meaning at its end.
+    pub(crate) fn same_answers(&mut self, take: &[bool]) -> Result<(), Stop> {
+        let mut stage = Stage::new(self, take)?;
+        stage.play(self, 2)?;
+        stage.complete(self)?;
+        self.same_meaning(take)
     }
 }

@@ -48,6 +48,12 @@ impl From<Task> for [u8; 4] {
 }
 
 impl Task {
+    // The number of its kind.
+    pub(crate) fn kind(self) -> u8 {
+        let [kind, ..]: [u8; 4] = self.into();
+        kind
+    }
+
     // The rows that it names.
     pub(crate) fn named(self) -> [Option<u8>; 2] {
         match self {
