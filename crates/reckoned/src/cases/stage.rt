@@ -65,7 +65,7 @@ impl<'a, P: Played> Stage<'a, P> {
     }
 
     fn same_chart(&self) -> Result<(), Stop> {
-        let cells = self.chart.iter().zip(self.ledger.chart.cells.iter());
+        let cells = self.chart.iter().zip(self.ledger.chart.iter());
         for (at, (span, pair)) in cells.enumerate() {
             same(What::Cell, at, read_span::<P>(*span), *pair)?;
         }

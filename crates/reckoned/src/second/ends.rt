@@ -173,7 +173,7 @@ impl<'a, T: Scale> Spans<'a, T> {
         })
     }
 
-    pub(crate) fn span(&self, row: u8, start: u16) -> Pair<T> {
+    fn span(&self, row: u8, start: u16) -> Pair<T> {
         Pair {
             low: self.low.end(row, false, start),
             high: self.high.end(row, false, start),
@@ -183,5 +183,14 @@ impl<'a, T: Scale> Spans<'a, T> {
     // The span of the rule.
     pub(crate) fn rule(&self) -> Pair<T> {
         self.span(self.low.sheet.last_row(), 0)
+    }
+
+    // Writes a row's spans over its line of a chart, from each start from which it ends within the take.
+    pub(crate) fn write_row(&self, row: u8, line: &mut [Pair<T>]) {
+        let sheet = self.low.sheet;
+        let starts = 0..sheet.frames().saturating_sub(sheet.length(row));
+        for (cell, start) in line.iter_mut().zip(starts) {
+            *cell = self.span(row, start);
+        }
     }
 }

@@ -5,23 +5,6 @@ use crate::second::reason::Reason;
 use crate::second::scale::{Pair, Scale};
 use std::alloc::{AllocError, Global};
 
-// The spans of each row from each start on, as far as they were written.
-#[derive(Drop)]
-pub struct Chart<T> {
-    pub cells: Vec<Pair<T>>,
-}
-
-impl<T: Scale> Chart<T> {
-    fn write_row(&mut self, sheet: &Reading, spans: &Spans<T>, row: u8) {
-        let frames = sheet.frames();
-        let starts = 0..frames.saturating_sub(sheet.length(row));
-        let first = usize::from(row) * usize::from(frames);
-        for (there, start) in self.cells.iter_mut().skip(first).zip(starts) {
-            *there = spans.span(row, start);
-        }
-    }
-}
-
 #[derive(Drop)]
 pub struct Ledger<T> {
     facts: u8,
@@ -29,18 +12,18 @@ pub struct Ledger<T> {
     cells: usize,
     pub accepted: u16,
     pub log: Vec<T>,
-    pub chart: Chart<T>,
+    pub chart: Vec<Pair<T>>,
 }
 
 impl<T: Scale> Ledger<T> {
-    pub(crate) fn new(sheet: &Reading, log: Vec<T>, cells: Vec<Pair<T>>) -> Ledger<T> {
+    pub(crate) fn new(sheet: &Reading, log: Vec<T>, chart: Vec<Pair<T>>) -> Ledger<T> {
         Ledger {
             facts: sheet.facts,
             frames: sheet.frames(),
             cells: sheet.cells(),
             accepted: 0,
             log,
-            chart: Chart { cells },
+            chart,
         }
     }
 
@@ -103,8 +86,10 @@ impl<T: Scale> Ledger<T> {
         let count = self.fed();
         let fed = self.log.as_slice().get(0..count).unwrap_or(&[]);
         let spans = Spans::of(heap, sheet, fed)?;
-        for row in 0..=sheet.last_row() {
-            self.chart.write_row(sheet, &spans, row);
+        let width = usize::from(self.frames).max(1);
+        let lines = self.chart.as_mut_slice().chunks_mut(width);
+        for (line, row) in lines.zip(0..=sheet.last_row()) {
+            spans.write_row(row, line);
         }
         Ok(Ok(spans.rule()))
     }
