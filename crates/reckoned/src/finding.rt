@@ -8,7 +8,7 @@ pub enum What {
     Check,
     Load,
     Facts,
-    Length,
+    Frames,
     Rows,
     Lengths,
     Row,

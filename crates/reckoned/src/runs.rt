@@ -1,7 +1,6 @@
 // Runs so many cases of each sort, and shows those in which the product and the second reckoning differ.
 use crate::bench::Bench;
 use crate::cases::carried::Carried;
-use crate::cases::played::drawn_take;
 use crate::draft::Draft;
 use crate::finding::Stop;
 use crate::second::scale::Scale;
@@ -74,7 +73,7 @@ impl Runs {
     fn take<P: Carried>(&mut self, bytes: &[u8], steps: u8) -> anyhow::Result<()> {
         self.load(bytes)?;
         let size = self.bench.reading.grades(2);
-        let take = drawn_take::<P>(self.bench.heap, &mut self.bench.dice, size)?;
+        let take = self.bench.dice.draw::<P>(self.bench.heap, size)?;
         self.bench.count_take();
         let outcome = self.bench.same_take(take.as_slice(), steps);
         self.noted(bytes, take.as_slice(), outcome)

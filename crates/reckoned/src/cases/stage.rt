@@ -1,6 +1,6 @@
 // A watch with its log and its chart, played call by call beside the ledger of the second reckoning.
 use crate::bench::Bench;
-use crate::cases::played::{Played, drawn_spans, drawn_take, graded_all, read_mark, read_span};
+use crate::cases::played::{Played, graded_all, read_mark, read_span};
 use crate::dice::Dice;
 use crate::finding::{Stop, What, same};
 use crate::second::ledger::Ledger;
@@ -30,9 +30,9 @@ impl<'a, P: Played> Stage<'a, P> {
         let spare = usize::from(bench.dice.up_to(3));
         let grades = bench.reading.grades(0).saturating_add(spare);
         let cells = bench.reading.cells().saturating_add(spare);
-        let plain = drawn_take::<P>(bench.heap, &mut bench.dice, grades)?;
+        let plain = bench.dice.draw::<P>(bench.heap, grades)?;
         let log = graded_all(bench.heap, plain.as_slice())?;
-        let pairs = drawn_spans::<P>(bench.heap, &mut bench.dice, cells)?;
+        let pairs = bench.dice.draw::<Pair<P>>(bench.heap, cells)?;
         let chart = pairs
             .iter()
             .map(|pair| Span {

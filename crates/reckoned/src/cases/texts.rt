@@ -7,16 +7,20 @@ use refusal::Refusal;
 use report::{line, notice};
 
 impl Bench {
-    // What a place of dots comes to, and the answer, where the text is written, or refused: the numbers may not fit it, or it the place.
-    fn same_text(
+    // What a place of so many dots comes to, and the answer, where the text is written, or refused: the numbers may not fit it, or it the place.
+    fn same_text<F: FnOnce(&mut [u8]) -> Result<usize, Refusal>>(
         &mut self,
-        place: &[u8],
-        product: Result<usize, Refusal>,
+        size: usize,
+        write: F,
         text: &[u8],
         fits: bool,
-    ) -> Result<(), Stop> {
+    ) -> Result<(), Stop>
+        requires { F.IsAlwaysCallable write }
+    {
         count(&mut self.tally.texts);
-        let granted = fits && text.len() <= place.len();
+        let mut place = vec![in self.heap; b'.'; size]?;
+        let product = write(place.as_mut_slice());
+        let granted = fits && text.len() <= size;
         let reckoned = if granted {
             Ok(text.len())
         } else {
@@ -33,31 +37,24 @@ impl Bench {
     }
 
     pub(crate) fn same_line(&mut self) -> Result<(), Stop> {
-        let heap = self.heap;
         let number = self.dice.word() % 300;
         let low = self.dice.word();
-        let high = if self.dice.once_in(3) {
-            low
-        } else {
-            self.dice.word()
-        };
+        let shut = self.dice.once_in(3);
+        let high = if shut { low } else { self.dice.word() };
         let word = if low == high { "shut" } else { "open" };
-        let text = format!(in heap; "{number:03} {low:04x} {high:04x} {word}\n")?;
+        let text = format!(in self.heap; "{number:03} {low:04x} {high:04x} {word}\n")?;
         let size = usize::from(self.dice.up_to(8)) + 14;
-        let mut place = vec![in heap; b'.'; size]?;
-        let product = line(place.as_mut_slice(), number, low, high);
-        self.same_text(place.as_slice(), product, text.as_bytes(), number <= 256)
+        let write = |place: &mut [u8]| line(place, number, low, high);
+        self.same_text(size, write, text.as_bytes(), number <= 256)
     }
 
     pub(crate) fn same_notice(&mut self) -> Result<(), Stop> {
-        let heap = self.heap;
         let number = self.dice.up_to(110);
         let row = self.dice.up_to(110);
-        let text = format!(in heap; "refused {number:02} {row:02}\n")?;
+        let text = format!(in self.heap; "refused {number:02} {row:02}\n")?;
         let size = usize::from(self.dice.up_to(6)) + 12;
-        let mut place = vec![in heap; b'.'; size]?;
-        let product = notice(place.as_mut_slice(), number, row);
+        let write = |place: &mut [u8]| notice(place, number, row);
         let fits = number <= 99 && row <= 99;
-        self.same_text(place.as_slice(), product, text.as_bytes(), fits)
+        self.same_text(size, write, text.as_bytes(), fits)
     }
 }
