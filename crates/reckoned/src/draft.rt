@@ -85,20 +85,20 @@ impl Draft {
         if free == 0 || (free < left && dice.once_in(self.shape.depth)) {
             return self.leaf(dice);
         }
-        let i = self.take_free(dice);
+        let row = self.take_free(dice);
         let joins = free > left || (free > 1 && dice.once_in(2));
-        let j = if joins {
+        let other = if joins {
             self.take_free(dice)
         } else {
             self.any_row(dice)
         };
         match dice.up_to(8) {
-            0 | 1 => self.both(i, j),
-            2 | 3 => self.either(i, j),
-            4 | 5 => self.then(i, j),
-            6 if !joins => self.turned(i),
-            7 | 8 if !joins => self.window(dice, i),
-            _ => self.then(j, i),
+            0 | 1 => self.both(row, other),
+            2 | 3 => self.either(row, other),
+            4 | 5 => self.then(row, other),
+            6 if !joins => self.turned(row),
+            7 | 8 if !joins => self.window(dice, row),
+            _ => self.then(other, row),
         }
     }
 

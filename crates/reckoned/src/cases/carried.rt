@@ -152,8 +152,8 @@ impl Bench {
         let mut stage = Stage::new(self, take)?;
         stage.play(self, steps)?;
         let (first, ways) = P::tried(&mut self.dice);
-        for k in 0..ways {
-            self.same_translation(&stage, first.wrapping_add(k))?;
+        for way in 0..ways {
+            self.same_translation(&stage, first.wrapping_add(way))?;
         }
         stage.complete(self)
     }

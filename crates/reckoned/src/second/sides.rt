@@ -22,13 +22,13 @@ impl Reached {
     fn with(self, fact: u8, turned: bool) -> Reached {
         if turned {
             Reached {
-                plain: self.plain,
                 turned: self.turned.with(fact),
+                ..self
             }
         } else {
             Reached {
                 plain: self.plain.with(fact),
-                turned: self.turned,
+                ..self
             }
         }
     }
