@@ -40,19 +40,29 @@ impl From<()> for Outcome {
     }
 }
 
-macro_rules! shown_as_numbers {
-    ($($number:ty),*) => {
-        $(
-            impl From<$number> for Outcome {
-                fn from(number: $number) -> Outcome {
-                    Outcome::Number(i64::from(number))
-                }
-            }
-        )*
-    };
+impl From<bool> for Outcome {
+    fn from(yes: bool) -> Outcome {
+        Outcome::Number(i64::from(yes))
+    }
 }
 
-shown_as_numbers!(bool, u8, u16, u32, i64);
+impl From<u8> for Outcome {
+    fn from(number: u8) -> Outcome {
+        Outcome::Number(i64::from(number))
+    }
+}
+
+impl From<u16> for Outcome {
+    fn from(number: u16) -> Outcome {
+        Outcome::Number(i64::from(number))
+    }
+}
+
+impl From<u32> for Outcome {
+    fn from(number: u32) -> Outcome {
+        Outcome::Number(i64::from(number))
+    }
+}
 
 impl From<usize> for Outcome {
     fn from(number: usize) -> Outcome {

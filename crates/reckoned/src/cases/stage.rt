@@ -3,6 +3,7 @@ use crate::bench::Bench;
 use crate::cases::played::{Played, graded_all, read_mark, read_span};
 use crate::dice::Dice;
 use crate::finding::{Stop, What, same};
+use crate::outcome::Outcome;
 use crate::second::ledger::Ledger;
 use crate::second::reading::Reading;
 use crate::second::reason::Reason;
@@ -57,9 +58,8 @@ impl<'a, P: Played> Stage<'a, P> {
             self.ledger.accepted,
         )?;
         for (at, (grade, plain)) in self.log.iter().zip(self.ledger.log.iter()).enumerate() {
-            let product: i64 = P::read(*grade).into();
-            let reckoned: i64 = (*plain).into();
-            same(What::Log, at, product, reckoned)?;
+            let product = Outcome::Number(P::read(*grade).into());
+            same(What::Log, at, product, Outcome::Number((*plain).into()))?;
         }
         Ok(())
     }
