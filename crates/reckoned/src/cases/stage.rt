@@ -5,7 +5,6 @@ use crate::dice::Dice;
 use crate::finding::{Stop, What, same};
 use crate::outcome::Outcome;
 use crate::second::ledger::Ledger;
-use crate::second::reading::Reading;
 use crate::second::reason::Reason;
 use crate::second::scale::Pair;
 use crate::tally::count;
@@ -105,19 +104,19 @@ impl<'a, P: Played> Stage<'a, P> {
     }
 
     // A strip of the take, from the next frame on: mostly some whole frames, now and then more than is missing, or broken.
-    fn next_strip(&self, dice: &mut Dice, reading: &Reading) -> &'a [P] {
-        let missing = reading.frames().saturating_sub(self.ledger.accepted);
-        let frames = dice.below(usize::from(missing) + 2) & 0xffff;
-        let broken = usize::from(dice.once_in(8));
+    fn next_strip(&self, bench: &mut Bench) -> &'a [P] {
+        let missing = bench.reading.frames().saturating_sub(self.ledger.accepted);
+        let frames = bench.dice.below(usize::from(missing) + 2) & 0xffff;
+        let broken = usize::from(bench.dice.once_in(8));
         let rest = self.rest();
-        rest.get(0..frames * usize::from(reading.facts) + broken)
+        rest.get(0..frames * usize::from(bench.reading.facts) + broken)
             .unwrap_or(rest)
     }
 
     // So many feeds, each with a mark after it.
     pub(crate) fn play(&mut self, bench: &mut Bench, steps: u8) -> Result<(), Stop> {
         for _ in 0..steps {
-            let strip = self.next_strip(&mut bench.dice, &bench.reading);
+            let strip = self.next_strip(bench);
             let log = lent(&mut bench.dice, self.ledger.log_size());
             self.feed(bench, log, strip)?;
             let log = lent(&mut bench.dice, self.ledger.log_size());
