@@ -1,6 +1,13 @@
 // Numbers that look random, and are the same on every run.
 ghost use Rattle.std.specs.Prelude.{◌≤◌};
 
+use std::alloc::{AllocError, Global};
+
+// A value that the dice can draw.
+pub trait Drawn: Drop {
+    fn drawn(dice: &mut Dice) -> Self;
+}
+
 #[derive(Drop)]
 pub struct Dice {
     state: u64,
@@ -42,5 +49,13 @@ impl Dice {
 
     pub(crate) fn word(&mut self) -> u16 {
         (self.roll() & 0xffff) as u16
+    }
+    // So many values.
+    pub(crate) fn draw<D: Drawn>(
+        &mut self,
+        heap: Global,
+        count: usize,
+    ) -> Result<Vec<D>, AllocError> {
+        (0..count).map(|_| D::drawn(self)).collect(heap)
     }
 }

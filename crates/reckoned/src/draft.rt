@@ -1,6 +1,6 @@
 // Grows sheets, row by row, so that each row but the last is named.
 use crate::dice::Dice;
-use crate::kinds::*;
+use crate::second::task::Task;
 use std::alloc::{AllocError, Global};
 
 // What sheets to grow.
@@ -20,16 +20,14 @@ pub struct Shape {
 
 #[derive(Clone, Copy)]
 struct Sketch {
-    kind: u8,
-    operands: [u8; 3],
+    task: Task,
     length: u16,
     // Whether it may be an inner row, with all that is below it.
     fit: bool,
 }
 
 const NOTHING: Sketch = Sketch {
-    kind: ALWAYS,
-    operands: [0, 0, 0],
+    task: Task::Always,
     length: 0,
     fit: true,
 };
@@ -49,8 +47,8 @@ impl Draft {
             rows: Vec::new(heap),
             free: Vec::new(heap),
         };
-        for k in 0..shape.rows {
-            let row = draft.next_row(dice, usize::from(shape.rows - k));
+        for left in (1..=shape.rows).rev() {
+            let row = draft.next_row(dice, usize::from(left));
             draft.add(row)?;
         }
         Ok(draft)
@@ -87,20 +85,20 @@ impl Draft {
         if free == 0 || (free < left && dice.once_in(self.shape.depth)) {
             return self.leaf(dice);
         }
-        let i = self.take_free(dice);
+        let row = self.take_free(dice);
         let joins = free > left || (free > 1 && dice.once_in(2));
-        let j = if joins {
+        let other = if joins {
             self.take_free(dice)
         } else {
             self.any_row(dice)
         };
         match dice.up_to(8) {
-            0 | 1 => self.pair(BOTH, i, j),
-            2 | 3 => self.pair(EITHER, i, j),
-            4 | 5 => self.pair(THEN, i, j),
-            6 if !joins => self.turned(i),
-            7 | 8 if !joins => self.window(dice, i),
-            _ => self.pair(THEN, j, i),
+            0 | 1 => self.both(row, other),
+            2 | 3 => self.either(row, other),
+            4 | 5 => self.then(row, other),
+            6 if !joins => self.turned(row),
+            7 | 8 if !joins => self.window(dice, row),
+            _ => self.then(other, row),
         }
     }
 
@@ -110,48 +108,60 @@ impl Draft {
         let fact = dice.up_to(self.shape.facts.saturating_sub(1));
         match dice.up_to(6) {
             0 => NOTHING,
-            1 | 2 | 3 => held(HOLD, duration, fact),
-            _ => held(HOLD_OFF, duration, fact),
+            1 | 2 | 3 => held(Task::Hold { duration, fact }, duration),
+            _ => held(Task::HoldOff { duration, fact }, duration),
         }
     }
 
-    // A row over two rows. A then that would be refused becomes a both.
-    fn pair(&self, kind: u8, i: u8, j: u8) -> Sketch {
-        let left = self.sketch(i);
-        let right = self.sketch(j);
-        let sum = left.length.saturating_add(right.length).saturating_add(1);
-        let refused = sum > u16::from(self.shape.most) || !left.fit;
-        let kind = if kind == THEN && self.shape.careful && refused {
-            BOTH
-        } else {
-            kind
-        };
+    fn both(&self, left: u8, right: u8) -> Sketch {
+        let first = self.sketch(left);
+        let second = self.sketch(right);
         Sketch {
-            kind,
-            operands: [i, j, 0],
-            length: if kind == THEN {
-                sum
-            } else {
-                left.length.max(right.length)
-            },
-            fit: left.fit && right.fit && (kind != EITHER || left.length == right.length),
+            task: Task::Both { left, right },
+            length: first.length.max(second.length),
+            fit: first.fit && second.fit,
         }
     }
 
-    fn turned(&self, i: u8) -> Sketch {
+    fn either(&self, left: u8, right: u8) -> Sketch {
+        let first = self.sketch(left);
+        let second = self.sketch(right);
         Sketch {
-            kind: NOT,
-            operands: [i, 0, 0],
-            length: self.sketch(i).length,
+            task: Task::Either { left, right },
+            length: first.length.max(second.length),
+            fit: first.fit && second.fit && first.length == second.length,
+        }
+    }
+
+    // One that would be refused becomes a both.
+    fn then(&self, left: u8, right: u8) -> Sketch {
+        let first = self.sketch(left);
+        let second = self.sketch(right);
+        let length = first.length.saturating_add(second.length).saturating_add(1);
+        let refused = length > u16::from(self.shape.most) || !first.fit;
+        if self.shape.careful && refused {
+            return self.both(left, right);
+        }
+        Sketch {
+            task: Task::Then { left, right },
+            length,
+            fit: first.fit && second.fit,
+        }
+    }
+
+    fn turned(&self, row: u8) -> Sketch {
+        Sketch {
+            task: Task::Not { row },
+            length: self.sketch(row).length,
             fit: false,
         }
     }
 
     // A window that its row mostly fits in. One that would be refused becomes a not.
-    fn window(&self, dice: &mut Dice, i: u8) -> Sketch {
-        let part = self.sketch(i);
+    fn window(&self, dice: &mut Dice, row: u8) -> Sketch {
+        let part = self.sketch(row);
         if self.shape.careful && !part.fit {
-            return self.turned(i);
+            return self.turned(row);
         }
         let half = self.shape.hold / 2;
         let from = dice.up_to(half);
@@ -164,8 +174,7 @@ impl Draft {
             .min(self.shape.most)
             .max(from);
         Sketch {
-            kind: WITHIN,
-            operands: [from, to, i],
+            task: Task::Within { from, to, row },
             length: u16::from(to),
             fit: part.fit,
         }
@@ -182,35 +191,34 @@ impl Draft {
         } else {
             255
         };
-        self.add(held(HOLD, duration, 0))?;
+        self.add(held(Task::Hold { duration, fact: 0 }, duration))?;
         let added = self.take_free(dice);
-        let kind = if follows {
-            THEN
+        let last = if follows {
+            self.then(top, added)
         } else if dice.once_in(2) {
-            BOTH
+            self.both(top, added)
         } else {
-            EITHER
+            self.either(top, added)
         };
-        self.add(self.pair(kind, top, added))
+        self.add(last)
     }
 
+    // The sizes, the kinds, and the operands.
     pub(crate) fn bytes(&self, heap: Global) -> Result<Vec<u8>, AllocError> {
         let rows = u8::try_from(self.rows.len()).unwrap_or(u8::MAX);
         let mut bytes = vec![in heap; self.shape.facts, rows]?;
+        bytes.extend(self.rows.iter().map(|row| row.task.kind()))?;
         for row in self.rows.iter() {
-            bytes.push(row.kind)?;
-        }
-        for row in self.rows.iter() {
-            bytes.extend_from_slice(&row.operands)?;
+            let [_, p, q, r]: [u8; 4] = row.task.into();
+            bytes.extend_from_slice(&[p, q, r])?;
         }
         Ok(bytes)
     }
 }
 
-fn held(kind: u8, duration: u8, fact: u8) -> Sketch {
+fn held(task: Task, duration: u8) -> Sketch {
     Sketch {
-        kind,
-        operands: [duration, fact, 0],
+        task,
         length: u16::from(duration),
         fit: true,
     }

@@ -1,14 +1,19 @@
 // What a case comes to where the product and the second reckoning differ.
+use crate::outcome::Outcome;
 use std::alloc::{AllocError, AllocFailed};
+use std::fmt;
 
 #[derive(Clone, Copy, Debug)]
 pub enum What {
     Check,
     Load,
-    Sizes,
+    Facts,
+    Frames,
     Rows,
+    Lengths,
     Row,
     OneSided,
+    Chains,
     Feed,
     Accepted,
     Log,
@@ -24,14 +29,28 @@ pub enum What {
     Text,
 }
 
-// What differs, at which row, cell or grade, and the two values: of a span both ends, of anything else it and 0.
-// Where a call may be refused, a refusal counts as 65536 times its number.
+// What differs, and at which row, cell, grade or letter.
 #[derive(Clone, Copy)]
 pub struct Finding {
-    pub what: What,
-    pub at: usize,
-    pub product: [u32; 2],
-    pub reckoned: [u32; 2],
+    what: What,
+    at: usize,
+    product: Outcome,
+    reckoned: Outcome,
+}
+
+impl fmt::Display for Finding {
+    fn fmt<W: fmt::Write>(&self, f: &mut fmt::Formatter<W>) -> fmt::Result {
+        let Finding {
+            what,
+            at,
+            product,
+            reckoned,
+        } = self;
+        write!(
+            f,
+            "{what:?} {at:x}: the product {product}, the reckoning {reckoned}"
+        )
+    }
 }
 
 #[derive(Clone, Copy)]
@@ -52,25 +71,22 @@ impl<T: Drop> From<AllocFailed<T>> for Stop {
     }
 }
 
-pub(crate) fn refusal_word(number: u8) -> u32 {
-    65536 * u32::from(number)
-}
-
 // Nothing where the two are the same.
-pub(crate) fn same(
+pub(crate) fn same<A: Into<Outcome>, B: Into<Outcome>>(
     what: What,
     at: usize,
-    product: [u32; 2],
-    reckoned: [u32; 2],
+    product: A,
+    reckoned: B,
 ) -> Result<(), Stop> {
-    if product == reckoned {
+    let finding = Finding {
+        what,
+        at,
+        product: product.into(),
+        reckoned: reckoned.into(),
+    };
+    if finding.product == finding.reckoned {
         Ok(())
     } else {
-        Err(Stop::Found(Finding {
-            what,
-            at,
-            product,
-            reckoned,
-        }))
+        Err(Stop::Found(finding))
     }
 }

@@ -3,6 +3,8 @@ pub mod ends;
 pub mod ledger;
 pub mod meaning;
 pub mod reading;
+pub mod reason;
 pub mod scale;
 pub mod set;
 pub mod sides;
+pub mod task;

@@ -1,42 +1,39 @@
-// Prints a case in which the product and the second reckoning differ, in hexadecimal.
+// A case in which the product and the second reckoning differ, as it is printed: in hexadecimal.
 use crate::finding::Finding;
 use crate::second::scale::Scale;
+use std::fmt;
 
-fn show_sheet(rt: &HostRuntime, bytes: &[u8]) -> anyhow::Result<()> {
-    print!(rt; "sheet ")?;
-    for byte in bytes {
-        print!(rt; "{byte:02x}")?;
-    }
-    println!(rt; "")?;
-    Ok(())
+#[derive(Drop)]
+pub struct Case<'a, T> {
+    pub sheet: &'a [u8],
+    pub take: &'a [T],
+    pub finding: Finding,
 }
 
-fn show_take<T: Scale>(rt: &HostRuntime, take: &[T]) -> anyhow::Result<()> {
-    print!(rt; "take")?;
-    for grade in take {
-        let word = grade.shown();
-        print!(rt; " {word:x}")?;
+impl<T: Scale> Case<'_, T> {
+    fn fmt_sheet<W: fmt::Write>(&self, f: &mut fmt::Formatter<W>) -> fmt::Result {
+        for byte in self.sheet {
+            write!(f, "{byte:02x}")?;
+        }
+        Ok(())
     }
-    println!(rt; "")?;
-    Ok(())
+
+    fn fmt_take<W: fmt::Write>(&self, f: &mut fmt::Formatter<W>) -> fmt::Result {
+        for grade in self.take {
+            let number: i64 = (*grade).into();
+            write!(f, " {number:x}")?;
+        }
+        Ok(())
+    }
 }
 
-pub(crate) fn show_case<T: Scale>(
-    rt: &HostRuntime,
-    bytes: &[u8],
-    take: &[T],
-    finding: Finding,
-) -> anyhow::Result<()> {
-    show_sheet(rt, bytes)?;
-    show_take(rt, take)?;
-    let Finding {
-        what,
-        at,
-        product,
-        reckoned,
-    } = finding;
-    let [a, b] = product;
-    let [c, d] = reckoned;
-    println!(rt; "{what:?} {at:x}: the product {a:x} {b:x}, the reckoning {c:x} {d:x}")?;
-    Ok(())
+impl<T: Scale> fmt::Display for Case<'_, T> {
+    fn fmt<W: fmt::Write>(&self, f: &mut fmt::Formatter<W>) -> fmt::Result {
+        write!(f, "sheet ")?;
+        self.fmt_sheet(f)?;
+        write!(f, "\ntake")?;
+        self.fmt_take(f)?;
+        let finding = self.finding;
+        write!(f, "\n{finding}")
+    }
 }

@@ -1,5 +1,6 @@
 // How many cases of each sort there were.
 use crate::second::reading::Reading;
+use crate::second::reason::Reason;
 use std::fmt;
 
 #[derive(Drop)]
@@ -9,7 +10,7 @@ pub struct Tally {
     // Rows of good sheets, by their kind.
     kinds: [u64; 8],
     // By the number of the refusal.
-    pub refused: [u64; 13],
+    refused: [u64; 13],
     pub one_sided: u64,
     // Sheets of which each chain of naming was followed.
     pub chained: u64,
@@ -28,6 +29,18 @@ pub struct Tally {
 
 pub(crate) fn count(number: &mut u64) {
     *number = number.saturating_add(1);
+}
+
+// How many there were by each number, from the first that there is.
+fn fmt_counts<W: fmt::Write>(
+    f: &mut fmt::Formatter<W>,
+    counts: &[u64],
+    first: usize,
+) -> fmt::Result {
+    for (number, times) in counts.iter().enumerate().skip(first) {
+        write!(f, " {number}:{times}")?;
+    }
+    Ok(())
 }
 
 impl Tally {
@@ -52,42 +65,43 @@ impl Tally {
         }
     }
 
-    pub(crate) fn count_refusal(&mut self, number: u8) {
-        if let Some(place) = self.refused.get_mut(usize::from(number)) {
+    pub(crate) fn count_refusal(&mut self, reason: Reason) {
+        if let Some(place) = self.refused.get_mut(usize::from(u8::from(reason))) {
             count(place);
         }
     }
 
     pub(crate) fn count_kinds(&mut self, reading: &Reading) {
-        for entry in reading.rows.iter() {
-            if let Some(place) = self.kinds.get_mut(usize::from(entry.kind)) {
+        for line in reading.lines.iter() {
+            if let Some(place) = self.kinds.get_mut(usize::from(line.task().kind())) {
                 count(place);
             }
         }
     }
 
     fn fmt_sheets<W: fmt::Write>(&self, f: &mut fmt::Formatter<W>) -> fmt::Result {
-        let sheets = self.sheets;
-        let good = self.good;
-        let one_sided = self.one_sided;
-        let chained = self.chained;
+        let Tally {
+            sheets,
+            good,
+            one_sided,
+            chained,
+            ..
+        } = self;
         write!(f, "sheets {sheets}, good {good}, with rows")?;
-        for (kind, times) in self.kinds.iter().enumerate() {
-            write!(f, " {kind}:{times}")?;
-        }
+        fmt_counts(f, &self.kinds, 0)?;
         write!(f, ", one-sided {one_sided}, by chains {chained}, refused")?;
-        for (number, times) in self.refused.iter().enumerate().skip(1) {
-            write!(f, " {number}:{times}")?;
-        }
-        Ok(())
+        fmt_counts(f, &self.refused, 1)
     }
 
     fn fmt_takes<W: fmt::Write>(&self, f: &mut fmt::Formatter<W>) -> fmt::Result {
-        let takes = self.takes;
-        let longest = self.longest;
-        let feeds = self.feeds;
-        let marks = self.marks;
-        let settled = self.settled;
+        let Tally {
+            takes,
+            longest,
+            feeds,
+            marks,
+            settled,
+            ..
+        } = self;
         write!(
             f,
             ", takes {takes}, of 256 frames {longest}, feeds {feeds}, marks {marks}, settled {settled}"
@@ -99,11 +113,14 @@ impl fmt::Display for Tally {
     fn fmt<W: fmt::Write>(&self, f: &mut fmt::Formatter<W>) -> fmt::Result {
         self.fmt_sheets(f)?;
         self.fmt_takes(f)?;
-        let met = self.met;
-        let unmet = self.unmet;
-        let carried = self.carried;
-        let texts = self.texts;
-        let differences = self.differences;
+        let Tally {
+            met,
+            unmet,
+            carried,
+            texts,
+            differences,
+            ..
+        } = self;
         write!(
             f,
             ", met {met}, not met {unmet}, carried {carried}, texts {texts}, differences {differences}"

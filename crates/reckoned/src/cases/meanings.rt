@@ -1,53 +1,57 @@
 // Complete takes of yes and no, by the published meaning.
-use crate::dice::Dice;
+use crate::bench::Bench;
+use crate::cases::played::read_mark;
+use crate::cases::stage::Stage;
 use crate::finding::{Stop, What, same};
 use crate::second::meaning::meets;
-use crate::second::reading::Reading;
-use crate::tally::{Tally, count};
+use crate::second::scale::Pair;
+use crate::tally::count;
 use grade::Span;
-use sheet::record::Sheet;
-use std::alloc::{AllocError, Global};
+use refusal::Refusal;
+use std::alloc::AllocError;
 use watch::judge::settle;
 use watch::record::Watch;
 
-// A take in which each fact is mostly yes, mostly no, or mixed.
-pub(crate) fn mixed_take(
-    heap: Global,
-    dice: &mut Dice,
-    reading: &Reading,
-) -> Result<Vec<bool>, AllocError> {
-    let share = dice.up_to(6);
-    let mut take = Vec::new(heap);
-    for _ in 0..reading.grades(2) {
-        take.push(dice.up_to(6) <= share)?;
+impl Bench {
+    // A take in which each fact is mostly yes, mostly no, or mixed.
+    pub(crate) fn mixed_take(&mut self) -> Result<Vec<bool>, AllocError> {
+        let share = self.dice.up_to(6);
+        let dice = &mut self.dice;
+        (0..self.reading.grades(2))
+            .map(|_| dice.up_to(6) <= share)
+            .collect(self.heap)
     }
-    Ok(take)
-}
 
-pub(crate) fn same_meaning(
-    heap: Global,
-    sheet: &Sheet,
-    reading: &Reading,
-    take: &[bool],
-    tally: &mut Tally,
-) -> Result<(), Stop> {
-    let mut log = vec![in heap; false; take.len()]?;
-    let mut chart = vec![in heap; Span::<bool>::unknown(); reading.cells()]?;
-    let mut watch = Watch::start(sheet);
-    let fed = watch.feed(log.as_mut_slice(), take);
-    let met = meets(heap, reading, take)?;
-    count(if met {
-        &mut tally.met
-    } else {
-        &mut tally.unmet
-    });
-    let reckoned = [u32::from(met), u32::from(met)];
-    match settle(&watch, log.as_slice(), chart.as_mut_slice()) {
-        Ok(mark) if fed.is_ok() => {
-            let ends = [u32::from(mark.span.low), u32::from(mark.span.high)];
-            same(What::Meaning, 0, ends, reckoned)
+    // What a watch that is fed the whole take settles on.
+    fn settled(&self, take: &[bool]) -> Result<Result<Pair<bool>, Refusal>, AllocError> {
+        let mut log = vec![in self.heap; false; take.len()]?;
+        let mut chart = vec![in self.heap; Span::<bool>::unknown(); self.reading.cells()]?;
+        let mut watch = Watch::start(&self.sheet);
+        if let Err(refusal) = watch.feed(log.as_mut_slice(), take) {
+            return Ok(Err(refusal));
         }
-        // neither yes nor no: the feed or the mark was refused
-        _ => same(What::Meaning, 0, [2, 2], reckoned),
+        Ok(read_mark::<bool>(settle(&watch, log.as_slice(), chart.as_mut_slice())))
+    }
+
+    fn same_meaning(&mut self, take: &[bool]) -> Result<(), Stop> {
+        let settled = self.settled(take)?;
+        let met = meets(self.heap, &self.reading, take)?;
+        count(if met {
+            &mut self.tally.met
+        } else {
+            &mut self.tally.unmet
+        });
+        let reckoned = Pair {
+            low: met,
+            high: met,
+        };
+        same(What::Meaning, 0, settled, reckoned)
+    }
+    // One take, step by step, with the published meaning at its end.
+    pub(crate) fn same_answers(&mut self, take: &[bool]) -> Result<(), Stop> {
+        let mut stage = Stage::new(self, take)?;
+        stage.play(self, 2)?;
+        stage.complete(self)?;
+        self.same_meaning(take)
     }
 }

@@ -1,17 +1,17 @@
 // The plain values of a scale beside the product's grades.
-use crate::dice::Dice;
-use crate::second::scale::Scale;
-use grade::{Grade, Margin, Voices};
+use crate::dice::{Dice, Drawn};
+use crate::second::scale::{Pair, Scale};
+use grade::{Grade, Margin, Span, Voices};
+use refusal::Refusal;
 use std::alloc::{AllocError, Global};
+use watch::outcome::Mark;
 
-pub trait Played: Scale {
+pub trait Played: Scale + Drawn {
     type Of: Grade;
 
     fn graded(self) -> Self::Of;
 
     fn read(grade: Self::Of) -> Self;
-
-    fn drawn(dice: &mut Dice) -> Self;
 }
 
 impl Played for bool {
@@ -24,7 +24,9 @@ impl Played for bool {
     fn read(grade: bool) -> bool {
         grade
     }
+}
 
+impl Drawn for bool {
     fn drawn(dice: &mut Dice) -> bool {
         dice.once_in(2)
     }
@@ -40,7 +42,9 @@ impl Played for u16 {
     fn read(grade: Voices) -> u16 {
         grade.bits()
     }
+}
 
+impl Drawn for u16 {
     // Often with most bits set, or with few, so that long holds are not all 0.
     fn drawn(dice: &mut Dice) -> u16 {
         let word = dice.word();
@@ -64,7 +68,9 @@ impl Played for i32 {
     fn read(grade: Margin) -> i32 {
         grade.value()
     }
+}
 
+impl Drawn for i32 {
     fn drawn(dice: &mut Dice) -> i32 {
         let [a, b, c, d, _, _, _, _] = dice.roll().to_be_bytes();
         match dice.up_to(9) {
@@ -78,23 +84,26 @@ impl Played for i32 {
     }
 }
 
-// So many values.
-pub(crate) fn drawn_take<P: Played>(
-    heap: Global,
-    dice: &mut Dice,
-    count: usize,
-) -> Result<Vec<P>, AllocError> {
-    let mut take = Vec::new(heap);
-    for _ in 0..count {
-        take.push(P::drawn(dice))?;
+impl<T: Drawn> Drawn for Pair<T> {
+    fn drawn(dice: &mut Dice) -> Pair<T> {
+        let low = T::drawn(dice);
+        let high = T::drawn(dice);
+        Pair { low, high }
     }
-    Ok(take)
+}
+
+// The ends of a span, as plain values.
+pub(crate) fn read_span<P: Played>(span: Span<P::Of>) -> Pair<P> {
+    Pair {
+        low: P::read(span.low),
+        high: P::read(span.high),
+    }
+}
+
+pub(crate) fn read_mark<P: Played>(mark: Result<Mark<P::Of>, Refusal>) -> Result<Pair<P>, Refusal> {
+    mark.map(|mark| read_span::<P>(mark.span))
 }
 
 pub(crate) fn graded_all<P: Played>(heap: Global, values: &[P]) -> Result<Vec<P::Of>, AllocError> {
-    let mut grades = Vec::new(heap);
-    for value in values {
-        grades.push(value.graded())?;
-    }
-    Ok(grades)
+    values.iter().map(|value| value.graded()).collect(heap)
 }

@@ -1,83 +1,60 @@
 // The line and the notice, beside the same texts by the library's formatting.
-use crate::dice::Dice;
-use crate::finding::{Stop, What, refusal_word, same};
-use crate::tally::{Tally, count};
+use crate::bench::Bench;
+use crate::finding::{Stop, What, same};
+use crate::second::reason::Reason;
+use crate::tally::count;
 use refusal::Refusal;
 use report::{line, notice};
-use std::alloc::Global;
 
-// What a place of so many dots comes to, and the answer, where the text is written or refused.
-fn same_text(
-    place: &[u8],
-    size: usize,
-    product: Result<usize, Refusal>,
-    text: &[u8],
-    fits: bool,
-    tally: &mut Tally,
-) -> Result<(), Stop> {
-    count(&mut tally.texts);
-    let answer = match product {
-        Ok(written) => written.min(255) as u32,
-        Err(refusal) => {
-            tally.count_refusal(refusal.number());
-            refusal_word(refusal.number())
-        }
-    };
-    let granted = fits && text.len() <= size;
-    let reckoned = if granted {
-        text.len().min(255) as u32
-    } else {
-        refusal_word(12)
-    };
-    same(What::Written, 0, [answer, 0], [reckoned, 0])?;
-    for (at, byte) in place.iter().enumerate() {
-        let expected = match text.get(at) {
-            Some(letter) if granted => *letter,
-            _ => b'.',
+impl Bench {
+    // What a place of so many dots comes to, and the answer, where the text is written, or refused: the numbers may not fit it, or it the place.
+    fn same_text<F: FnOnce(&mut [u8]) -> Result<usize, Refusal>>(
+        &mut self,
+        size: usize,
+        write: F,
+        text: &[u8],
+        fits: bool,
+    ) -> Result<(), Stop>
+        requires { F.IsAlwaysCallable write }
+    {
+        count(&mut self.tally.texts);
+        let mut place = vec![in self.heap; b'.'; size]?;
+        let product = write(place.as_mut_slice());
+        let granted = fits && text.len() <= size;
+        let reckoned = if granted {
+            Ok(text.len())
+        } else {
+            self.tally.count_refusal(Reason::Place);
+            Err(Reason::Place)
         };
-        same(
-            What::Text,
-            at,
-            [u32::from(*byte), 0],
-            [u32::from(expected), 0],
-        )?;
+        same(What::Written, 0, product, reckoned)?;
+        let letters = if granted { text } else { &[] };
+        for (at, byte) in place.iter().enumerate() {
+            let expected = letters.get(at).copied().unwrap_or(b'.');
+            same(What::Text, at, *byte, expected)?;
+        }
+        Ok(())
     }
-    Ok(())
-}
 
-pub(crate) fn same_line(heap: Global, dice: &mut Dice, tally: &mut Tally) -> Result<(), Stop> {
-    let number = dice.word() % 300;
-    let low = dice.word();
-    let high = if dice.once_in(3) { low } else { dice.word() };
-    let word = if low == high { "shut" } else { "open" };
-    let text = format!(in heap; "{number:03} {low:04x} {high:04x} {word}\n")?;
-    let size = usize::from(dice.up_to(8)) + 14;
-    let mut place = vec![in heap; b'.'; size]?;
-    let product = line(place.as_mut_slice(), number, low, high);
-    same_text(
-        place.as_slice(),
-        size,
-        product,
-        text.as_bytes(),
-        number <= 256,
-        tally,
-    )
-}
+    pub(crate) fn same_line(&mut self) -> Result<(), Stop> {
+        let number = self.dice.word() % 300;
+        let low = self.dice.word();
+        let shut = self.dice.once_in(3);
+        let high = if shut { low } else { self.dice.word() };
+        let word = if low == high { "shut" } else { "open" };
+        let text = format!(in self.heap; "{number:03} {low:04x} {high:04x} {word}\n")?;
+        let size = usize::from(self.dice.up_to(8)) + 14;
+        let write = |place: &mut [u8]| line(place, number, low, high);
+        self.same_text(size, write, text.as_bytes(), number <= 256)
+    }
 
-pub(crate) fn same_notice(heap: Global, dice: &mut Dice, tally: &mut Tally) -> Result<(), Stop> {
-    let number = dice.up_to(110);
-    let row = dice.up_to(110);
-    let text = format!(in heap; "refused {number:02} {row:02}\n")?;
-    let size = usize::from(dice.up_to(6)) + 12;
-    let mut place = vec![in heap; b'.'; size]?;
-    let product = notice(place.as_mut_slice(), number, row);
-    let fits = number <= 99 && row <= 99;
-    same_text(
-        place.as_slice(),
-        size,
-        product,
-        text.as_bytes(),
-        fits,
-        tally,
-    )
+    pub(crate) fn same_notice(&mut self) -> Result<(), Stop> {
+        let number = self.dice.up_to(110);
+        let row = self.dice.up_to(110);
+        let text = format!(in self.heap; "refused {number:02} {row:02}\n")?;
+        let size = usize::from(self.dice.up_to(6)) + 12;
+        let write = |place: &mut [u8]| notice(place, number, row);
+        let fits = number <= 99 && row <= 99;
+        self.same_text(size, write, text.as_bytes(), fits)
+    }
 }

@@ -1,7 +1,7 @@
-// One end of every row's span, on its own: the nots are pushed down to the facts, and each window is gone through start by start.
-use crate::kinds::*;
-use crate::second::reading::{Entry, Reading};
-use crate::second::scale::Scale;
+// Both ends of every row's span, each on its own: the nots are pushed down to the facts, and each window is gone through start by start.
+use crate::second::reading::Reading;
+use crate::second::scale::{Pair, Scale};
+use crate::second::task::Task;
 use std::alloc::{AllocError, Global};
 
 // Under an odd number of nots, what asks for all asks for some, and the other way round.
@@ -31,51 +31,44 @@ impl Ask {
     }
 }
 
-// What has been fed, and what stands for all that has not: the least for the low end, the greatest for the high one.
-#[derive(Drop)]
-pub struct Fed<'a, T> {
-    pub log: &'a [T],
-    pub accepted: u16,
-    pub unfed: T,
-}
-
-impl<T: Scale> Fed<'_, T> {
-    // A fact in a frame, turned or not. What was not fed counts the same either way.
-    fn fact(&self, facts: u8, frame: u16, fact: u8, turned: bool) -> T {
-        let at = place(frame, u16::from(facts), u16::from(fact));
-        match self.log.get(at) {
-            Some(grade) if frame < self.accepted => { if turned { grade.turned() } else { *grade } }
-            _ => self.unfed,
-        }
-    }
-}
-
 // Where a start stands, in so many lines of so many frames.
 fn place(line: u16, frames: u16, start: u16) -> usize {
     usize::from(line) * usize::from(frames) + usize::from(start)
 }
 
-// The end of each row at each start, plain and turned, in the order of the rows.
+// One end of each row at each start, plain and turned, in the order of the rows.
 #[derive(Drop)]
-pub struct Ends<T> {
+struct Ends<'a, T> {
+    sheet: &'a Reading,
+    // The grades that were fed, and what stands for all that were not: the least for the low end, the greatest for the high one.
+    fed: &'a [T],
+    unfed: T,
     frames: u16,
     cells: Vec<T>,
 }
 
-impl<T: Scale> Ends<T> {
-    pub(crate) fn of(heap: Global, sheet: &Reading, fed: &Fed<T>) -> Result<Ends<T>, AllocError> {
+impl<'a, T: Scale> Ends<'a, T> {
+    fn of(
+        heap: Global,
+        sheet: &'a Reading,
+        fed: &'a [T],
+        unfed: T,
+    ) -> Result<Ends<'a, T>, AllocError> {
         let mut ends = Ends {
+            sheet,
+            fed,
+            unfed,
             frames: sheet.frames(),
             cells: Vec::new(heap),
         };
         for row in 0..=sheet.last_row() {
-            ends.add_row(sheet, fed, row, false)?;
-            ends.add_row(sheet, fed, row, true)?;
+            ends.add_row(row, false)?;
+            ends.add_row(row, true)?;
         }
         Ok(ends)
     }
 
-    pub(crate) fn end(&self, row: u8, turned: bool, start: u16) -> T {
+    fn end(&self, row: u8, turned: bool, start: u16) -> T {
         let line = 2 * u16::from(row) + u16::from(turned);
         self.cells
             .get(place(line, self.frames, start))
@@ -84,18 +77,12 @@ impl<T: Scale> Ends<T> {
     }
 
     // A start from which the row does not end within the take has a value that nobody asks for.
-    fn add_row(
-        &mut self,
-        sheet: &Reading,
-        fed: &Fed<T>,
-        row: u8,
-        turned: bool,
-    ) -> Result<(), AllocError> {
-        let entry = sheet.entry(row);
-        let length = sheet.length(row);
+    fn add_row(&mut self, row: u8, turned: bool) -> Result<(), AllocError> {
+        let task = self.sheet.task(row);
+        let length = self.sheet.length(row);
         for start in 0..self.frames {
             let value = if start.saturating_add(length) < self.frames {
-                self.value(sheet, fed, entry, turned, start)
+                self.value(task, turned, start)
             } else {
                 T::least()
             };
@@ -104,56 +91,106 @@ impl<T: Scale> Ends<T> {
         Ok(())
     }
 
-    fn value(&self, sheet: &Reading, fed: &Fed<T>, entry: Entry, turned: bool, start: u16) -> T {
-        let Entry { kind, p, q, .. } = entry;
-        let ask = Ask::all_but_if(turned);
-        match kind {
-            HOLD => held(sheet, fed, entry, ask, turned, start),
-            HOLD_OFF => held(sheet, fed, entry, ask, !turned, start),
-            BOTH => ask.both(self.end(p, turned, start), self.end(q, turned, start)),
-            EITHER => Ask::all_but_if(!turned).both(
-                self.end(p, turned, start),
-                self.end(q, turned, start),
-            ),
-            NOT => self.end(p, !turned, start),
-            THEN => {
-                let next = start.saturating_add(sheet.length(p)).saturating_add(1);
-                ask.both(self.end(p, turned, start), self.end(q, turned, next))
+    fn value(&self, task: Task, turned: bool, start: u16) -> T {
+        let all = Ask::all_but_if(turned);
+        let some = Ask::all_but_if(!turned);
+        match task {
+            Task::Always => all.of_none(),
+            Task::Hold { duration, fact } => self.held(all, duration, fact, turned, start),
+            Task::HoldOff { duration, fact } => self.held(all, duration, fact, !turned, start),
+            Task::Both { left, right } => {
+                all.both(
+                    self.end(left, turned, start),
+                    self.end(right, turned, start),
+                )
             }
-            WITHIN => self.window(sheet, entry, turned, start),
-            _ => ask.of_none(),
+            Task::Either { left, right } => {
+                some.both(
+                    self.end(left, turned, start),
+                    self.end(right, turned, start),
+                )
+            }
+            Task::Not { row } => self.end(row, !turned, start),
+            Task::Then { left, right } => {
+                let next = start
+                    .saturating_add(self.sheet.length(left))
+                    .saturating_add(1);
+                all.both(self.end(left, turned, start), self.end(right, turned, next))
+            }
+            Task::Within { from, to, row } => {
+                let first = start.saturating_add(u16::from(from));
+                let last = start.saturating_add(u16::from(to));
+                self.window(some, row, turned, first, last)
+            }
         }
     }
 
-    // Every start of the part from which it ends within the window.
-    fn window(&self, sheet: &Reading, entry: Entry, turned: bool, start: u16) -> T {
-        let ask = Ask::all_but_if(!turned);
-        let first = start.saturating_add(u16::from(entry.p));
-        let last = start.saturating_add(u16::from(entry.q));
-        let length = sheet.length(entry.r);
-        let mut all = ask.of_none();
-        for at in first..=last {
-            if at.saturating_add(length) <= last {
-                all = ask.both(all, self.end(entry.r, turned, at));
-            }
+    // A fact in each frame of a hold, turned or not.
+    fn held(&self, ask: Ask, duration: u8, fact: u8, turned: bool, start: u16) -> T {
+        let last = start.saturating_add(u16::from(duration));
+        (start..=last).fold(ask.of_none(), |all, frame| {
+            ask.both(all, self.fact(frame, fact, turned))
+        })
+    }
+
+    // What was not fed counts the same either way.
+    fn fact(&self, frame: u16, fact: u8, turned: bool) -> T {
+        let at = place(frame, u16::from(self.sheet.facts), u16::from(fact));
+        match self.fed.get(at) {
+            Some(grade) if turned => grade.turned(),
+            Some(grade) => *grade,
+            None => self.unfed,
         }
-        all
+    }
+
+    // Every start of the row from which it ends within the window.
+    fn window(&self, ask: Ask, row: u8, turned: bool, first: u16, last: u16) -> T {
+        let length = self.sheet.length(row);
+        (first..=last)
+            .filter(|start| start.saturating_add(length) <= last)
+            .fold(ask.of_none(), |all, start| {
+                ask.both(all, self.end(row, turned, start))
+            })
     }
 }
 
-// A fact in each frame of a hold, turned or not.
-fn held<T: Scale>(
-    sheet: &Reading,
-    fed: &Fed<T>,
-    entry: Entry,
-    ask: Ask,
-    turned: bool,
-    start: u16,
-) -> T {
-    let last = start.saturating_add(u16::from(entry.p));
-    let mut all = ask.of_none();
-    for frame in start..=last {
-        all = ask.both(all, fed.fact(sheet.facts, frame, entry.q, turned));
+// The span of each row at each start.
+#[derive(Drop)]
+pub struct Spans<'a, T> {
+    low: Ends<'a, T>,
+    high: Ends<'a, T>,
+}
+
+impl<'a, T: Scale> Spans<'a, T> {
+    pub(crate) fn of(
+        heap: Global,
+        sheet: &'a Reading,
+        fed: &'a [T],
+    ) -> Result<Spans<'a, T>, AllocError> {
+        Ok(Spans {
+            low: Ends::of(heap, sheet, fed, T::least())?,
+            high: Ends::of(heap, sheet, fed, T::greatest())?,
+        })
     }
-    all
+
+    fn span(&self, row: u8, start: u16) -> Pair<T> {
+        Pair {
+            low: self.low.end(row, false, start),
+            high: self.high.end(row, false, start),
+        }
+    }
+
+    // The span of the rule.
+    pub(crate) fn rule(&self) -> Pair<T> {
+        self.span(self.low.sheet.last_row(), 0)
+    }
+
+    // Writes a row's spans over its line of a chart, from each start from which it ends within the take.
+    pub(crate) fn write_row(&self, row: u8, line: &mut [Pair<T>]) {
+        let sheet = self.low.sheet;
+        let starts = 0..sheet.frames().saturating_sub(sheet.length(row));
+        for (cell, start) in line.iter_mut().zip(starts) {
+            *cell = self.span(row, start);
+        }
+    }
 }

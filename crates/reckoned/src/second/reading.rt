@@ -1,143 +1,96 @@
-// What bytes come to as a sheet: for each rule the rows that break it, and from these the answer.
-use crate::kinds::*;
+// What bytes come to as a sheet: for each rule the lowest row that breaks it, and from these the answer.
+use crate::second::reason::{Flaw, Reason};
 use crate::second::set::Set;
+use crate::second::task::Task;
 use std::alloc::{AllocError, Global};
 
+// A row as it was read.
 #[derive(Clone, Copy)]
-pub struct Entry {
-    pub kind: u8,
-    pub p: u8,
-    pub q: u8,
-    pub r: u8,
+pub struct Line {
+    // Its task, or why its bytes are none.
+    read: Result<Task, Reason>,
+    pub length: u16,
+    // Itself and all rows that are named below it, at any depth.
+    below: Set,
 }
 
-// What an operand is, by the table.
-#[derive(Clone, Copy)]
-enum Form {
-    Zero,
-    Number,
-    Fact,
-    Row,
-}
-
-impl Form {
-    fn allows(self, operand: u8, facts: u8, row: u8) -> bool {
-        match self {
-            Form::Zero => operand == 0,
-            Form::Number => true,
-            Form::Fact => operand < facts,
-            Form::Row => operand < row,
-        }
-    }
-
-    fn row(self, operand: u8) -> Option<u8> {
-        match self {
-            Form::Row => Some(operand),
-            _ => None,
-        }
-    }
-}
-
-impl Entry {
-    fn forms(self) -> [Form; 3] {
-        match self.kind {
-            HOLD | HOLD_OFF => [Form::Number, Form::Fact, Form::Zero],
-            BOTH | EITHER | THEN => [Form::Row, Form::Row, Form::Zero],
-            NOT => [Form::Row, Form::Zero, Form::Zero],
-            WITHIN => [Form::Number, Form::Number, Form::Row],
-            _ => [Form::Zero, Form::Zero, Form::Zero],
-        }
-    }
-
-    // The rows that it names.
-    pub(crate) fn named(self) -> [Option<u8>; 3] {
-        let [p, q, r] = self.forms();
-        [p.row(self.p), q.row(self.q), r.row(self.r)]
-    }
-
-    fn names(self, row: u8) -> bool {
-        let mut found = false;
-        for named in self.named() {
-            found |= named == Some(row);
-        }
-        found
-    }
-
-    fn operands_right(self, facts: u8, row: u8) -> bool {
-        let [p, q, r] = self.forms();
-        p.allows(self.p, facts, row)
-            && q.allows(self.q, facts, row)
-            && r.allows(self.r, facts, row)
-            && (self.kind != WITHIN || self.p <= self.q)
+impl Line {
+    // Bytes that are no task ask for nothing.
+    pub(crate) fn task(self) -> Task {
+        self.read.unwrap_or(Task::Always)
     }
 }
 
 #[derive(Drop)]
 pub struct Reading {
     pub facts: u8,
-    pub rows: Vec<Entry>,
-    pub lengths: Vec<u16>,
-    // For each row, itself and all that are named below it, at any depth.
-    below: Vec<Set>,
+    pub lines: Vec<Line>,
+}
+
+// The number of facts, the kinds and the operands; nothing where the sizes are wrong.
+fn parts(bytes: &[u8]) -> Option<(u8, &[u8], &[u8])> {
+    let [facts, count, rest @ ..] = bytes else {
+        return None;
+    };
+    let sizes_right = matches!(*facts, 1..=16) && matches!(*count, 1..=32);
+    if !sizes_right || rest.len() != 4 * usize::from(*count) {
+        return None;
+    }
+    let (kinds, operands) = rest.split_at_checked(usize::from(*count))?;
+    Some((*facts, kinds, operands))
 }
 
 impl Reading {
-    // The rows of the bytes, right or not; none where the sizes are wrong.
-    pub(crate) fn of(heap: Global, bytes: &[u8]) -> Result<Option<Reading>, AllocError> {
-        let [facts, count, rest @ ..] = bytes else {
-            return Ok(None);
+    // The sheet that the bytes are, or the rule that they break.
+    pub(crate) fn of(heap: Global, bytes: &[u8]) -> Result<Result<Reading, Flaw>, AllocError> {
+        let Some((facts, kinds, operands)) = parts(bytes) else {
+            return Ok(Err(Flaw {
+                reason: Reason::Sizes,
+                row: 0,
+            }));
         };
-        let sizes_right = matches!(*facts, 1..=16) && matches!(*count, 1..=32);
-        if !sizes_right || rest.len() != 4 * usize::from(*count) {
-            return Ok(None);
-        }
         let mut reading = Reading {
-            facts: *facts,
-            rows: Vec::new(heap),
-            lengths: Vec::new(heap),
-            below: Vec::new(heap),
+            facts,
+            lines: Vec::new(heap),
         };
-        if let Some((kinds, operands)) = rest.split_at_checked(usize::from(*count)) {
-            reading.read(kinds, operands)?;
-        }
-        Ok(Some(reading))
-    }
-
-    fn read(&mut self, kinds: &[u8], operands: &[u8]) -> Result<(), AllocError> {
         for (kind, triple) in kinds.iter().zip(operands.chunks(3)) {
             if let [p, q, r] = triple {
-                let entry = Entry {
-                    kind: *kind,
-                    p: *p,
-                    q: *q,
-                    r: *r,
-                };
-                let length = self.length_of(entry);
-                let below = self.below_of(entry);
-                self.rows.push(entry)?;
-                self.lengths.push(length)?;
-                self.below.push(below)?;
+                reading.add(Task::try_from([*kind, *p, *q, *r]))?;
             }
         }
+        Ok(match reading.flaw() {
+            Some(flaw) => Err(flaw),
+            None => Ok(reading),
+        })
+    }
+
+    fn add(&mut self, read: Result<Task, Reason>) -> Result<(), AllocError> {
+        let task = read.unwrap_or(Task::Always);
+        let line = Line {
+            read,
+            length: self.length_of(task),
+            below: self.below_of(task),
+        };
+        self.lines.push(line)?;
         Ok(())
     }
 
-    pub(crate) fn entry(&self, row: u8) -> Entry {
-        let none = Entry {
-            kind: ALWAYS,
-            p: 0,
-            q: 0,
-            r: 0,
-        };
-        self.rows.get(usize::from(row)).copied().unwrap_or(none)
+    fn line(&self, row: u8) -> Option<Line> {
+        self.lines.get(usize::from(row)).copied()
+    }
+
+    pub(crate) fn task(&self, row: u8) -> Task {
+        self.line(row).map_or(Task::Always, |line| line.task())
     }
 
     pub(crate) fn length(&self, row: u8) -> u16 {
-        self.lengths.get(usize::from(row)).copied().unwrap_or(0)
+        self.line(row).map_or(0, |line| line.length)
     }
 
     pub(crate) fn last_row(&self) -> u8 {
-        u8::try_from(self.rows.len()).unwrap_or(0).saturating_sub(1)
+        u8::try_from(self.lines.len())
+            .unwrap_or(0)
+            .saturating_sub(1)
     }
 
     // How many frames a take has.
@@ -155,121 +108,97 @@ impl Reading {
         usize::from(self.last_row().saturating_add(1)) * usize::from(self.frames())
     }
 
-    fn length_of(&self, entry: Entry) -> u16 {
-        let Entry { kind, p, q, .. } = entry;
-        match kind {
-            HOLD | HOLD_OFF => u16::from(p),
-            BOTH | EITHER => self.length(p).max(self.length(q)),
-            NOT => self.length(p),
-            THEN => self
-                .length(p)
-                .saturating_add(self.length(q))
+    fn length_of(&self, task: Task) -> u16 {
+        match task {
+            Task::Always => 0,
+            Task::Hold { duration, .. } | Task::HoldOff { duration, .. } => u16::from(duration),
+            Task::Both { left, right } | Task::Either { left, right } => {
+                self.length(left).max(self.length(right))
+            }
+            Task::Not { row } => self.length(row),
+            Task::Then { left, right } => self
+                .length(left)
+                .saturating_add(self.length(right))
                 .saturating_add(1),
-            WITHIN => u16::from(q),
-            _ => 0,
+            Task::Within { to, .. } => u16::from(to),
         }
     }
 
     fn all_below(&self, row: u8) -> Set {
-        self.below
-            .get(usize::from(row))
-            .copied()
-            .unwrap_or(Set::empty())
+        self.line(row).map_or(Set::empty(), |line| line.below)
     }
 
     // The next row, with all that is below the rows that it names.
-    fn below_of(&self, entry: Entry) -> Set {
-        let at = u8::try_from(self.rows.len()).unwrap_or(u8::MAX);
-        let mut all = Set::empty().with(at);
-        for named in entry.named() {
-            if let Some(row) = named {
-                all = all.joined(self.all_below(row));
-            }
-        }
-        all
+    fn below_of(&self, task: Task) -> Set {
+        let at = u8::try_from(self.lines.len()).unwrap_or(u8::MAX);
+        task.named()
+            .into_iter()
+            .flatten()
+            .fold(Set::empty().with(at), |all, row| {
+                all.joined(self.all_below(row))
+            })
     }
 
     // The inner rows: all that is below the row of a within, or the left side of a then.
     fn inner(&self) -> Set {
-        let mut inner = Set::empty();
-        for entry in self.rows.iter() {
-            match entry.kind {
-                THEN => inner = inner.joined(self.all_below(entry.p)),
-                WITHIN => inner = inner.joined(self.all_below(entry.r)),
-                _ => {}
-            }
-        }
-        inner
+        self.lines
+            .iter()
+            .fold(Set::empty(), |inner, line| match line.task() {
+                Task::Then { left: row, .. } | Task::Within { row, .. } => {
+                    inner.joined(self.all_below(row))
+                }
+                _ => inner,
+            })
     }
 
     fn is_named(&self, row: u8) -> bool {
-        let mut found = false;
-        for entry in self.rows.iter() {
-            found |= entry.names(row);
-        }
-        found
+        self.lines
+            .iter()
+            .any(|line| line.task().named().contains(&Some(row)))
     }
 
-    fn wrong_inside(&self, entry: Entry) -> bool {
-        entry.kind == NOT || (entry.kind == EITHER && self.length(entry.p) != self.length(entry.q))
+    fn misread(&self, row: u8, reason: Reason) -> bool {
+        self.line(row)
+            .is_some_and(|line| line.read.err() == Some(reason))
     }
 
-    fn breaks(&self, rule: u8, row: u8, inner: Set) -> bool {
-        let entry = self.entry(row);
-        match rule {
-            2 => entry.kind > 7,
-            3 => !entry.operands_right(self.facts, row),
-            4 => self.length(row) > 255,
-            5 => row != self.last_row() && !self.is_named(row),
-            _ => inner.has(row) && self.wrong_inside(entry),
+    fn wrong_inside(&self, row: u8) -> bool {
+        match self.task(row) {
+            Task::Not { .. } => true,
+            Task::Either { left, right } => self.length(left) != self.length(right),
+            _ => false,
         }
     }
 
     // The lowest row that breaks a rule.
-    fn offender(&self, rule: u8) -> Option<u8> {
+    fn lowest<F: Fn(&u8) -> bool>(&self, reason: Reason, breaks: F) -> Option<Flaw>
+        requires { (state : F) (x : _) → F.pre state x }
+    {
+        let row = (0..=self.last_row()).find(breaks)?;
+        Some(Flaw { reason, row })
+    }
+
+    // Of the rules that a row breaks by itself, the one that is broken at the lowest row, and at that row the first of them.
+    fn row_flaw(&self) -> Option<Flaw> {
+        let flaws = [
+            self.lowest(Reason::Kind, |row| self.misread(*row, Reason::Kind)),
+            self.lowest(Reason::Operand, |row| {
+                self.misread(*row, Reason::Operand) || !self.task(*row).fits(self.facts, *row)
+            }),
+            self.lowest(Reason::Length, |row| self.length(*row) > 255),
+        ];
+        flaws.into_iter().flatten().min_by_key(|flaw| flaw.row)
+    }
+
+    // The rule that is broken, by the order in which the rules are tested.
+    fn flaw(&self) -> Option<Flaw> {
         let inner = self.inner();
-        let mut offenders = Set::empty();
-        for row in 0..=self.last_row() {
-            if self.breaks(rule, row, inner) {
-                offenders = offenders.with(row);
-            }
-        }
-        offenders.lowest()
-    }
-
-    // Of the rules 2, 3 and 4, the one that is broken at the lowest row, and at that row the first of them.
-    fn row_fault(&self) -> Option<(u8, u8)> {
-        let mut first = None;
-        for rule in [4, 3, 2] {
-            if let Some(row) = self.offender(rule) {
-                first = match first {
-                    Some((at, other)) if at < row => Some((at, other)),
-                    _ => Some((row, rule)),
-                };
-            }
-        }
-        first
-    }
-
-    // The rule that is broken and the row where, by the order in which the rules are tested.
-    fn fault(&self) -> Option<(u8, u8)> {
-        if let Some(fault) = self.row_fault() {
-            return Some(fault);
-        }
-        if let Some(row) = self.offender(5) {
-            return Some((row, 5));
-        }
-        match self.offender(6) {
-            Some(row) => Some((row, 6)),
-            None => None,
-        }
-    }
-
-    // 0, or 256 times the refusal, plus the row.
-    pub(crate) fn answer(&self) -> u32 {
-        match self.fault() {
-            Some((row, rule)) => 256 * u32::from(rule) + u32::from(row),
-            None => 0,
-        }
+        self.row_flaw()
+            .or(self.lowest(Reason::Unnamed, |row| {
+                *row != self.last_row() && !self.is_named(*row)
+            }))
+            .or(self.lowest(Reason::Inner, |row| {
+                inner.has(*row) && self.wrong_inside(*row)
+            }))
     }
 }

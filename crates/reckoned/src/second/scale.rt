@@ -1,5 +1,5 @@
-// The three scales that facts are graded on, as plain words, plain numbers, and yes and no.
-pub trait Scale: Copy {
+// The three scales that facts are graded on, as plain words, plain numbers, and yes and no. Each grade is a number of its own.
+pub trait Scale: Copy + PartialEq + Into<i64> {
     fn least() -> Self;
 
     fn greatest() -> Self;
@@ -9,9 +9,13 @@ pub trait Scale: Copy {
     fn higher(self, other: Self) -> Self;
 
     fn turned(self) -> Self;
+}
 
-    // The value as it is shown and compared; no two have the same.
-    fn shown(self) -> u32;
+// The two ends of a span.
+#[derive(Clone, Copy, Debug, PartialEq, Eq)]
+pub struct Pair<T> {
+    pub low: T,
+    pub high: T,
 }
 
 impl Scale for bool {
@@ -33,10 +37,6 @@ impl Scale for bool {
 
     fn turned(self) -> bool {
         !self
-    }
-
-    fn shown(self) -> u32 {
-        u32::from(self)
     }
 }
 
@@ -60,10 +60,6 @@ impl Scale for u16 {
     fn turned(self) -> u16 {
         self ^ 0xffff
     }
-
-    fn shown(self) -> u32 {
-        u32::from(self)
-    }
 }
 
 impl Scale for i32 {
@@ -86,9 +82,5 @@ impl Scale for i32 {
     // The flip is -1 - m.
     fn turned(self) -> i32 {
         (-1i32).wrapping_sub(self)
-    }
-
-    fn shown(self) -> u32 {
-        u32::from_be_bytes(self.to_be_bytes())
     }
 }

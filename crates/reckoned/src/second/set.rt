@@ -9,6 +9,10 @@ impl Set {
         Set { bits: 0 }
     }
 
+    pub(crate) fn is_empty(self) -> bool {
+        self.bits == 0
+    }
+
     pub(crate) fn has(self, member: u8) -> bool {
         member < 32 && (self.bits >> member) & 1 == 1
     }
@@ -33,14 +37,5 @@ impl Set {
         Set {
             bits: self.bits & other.bits,
         }
-    }
-
-    pub(crate) fn lowest(self) -> Option<u8> {
-        for member in 0..32u8 {
-            if self.has(member) {
-                return Some(member);
-            }
-        }
-        None
     }
 }

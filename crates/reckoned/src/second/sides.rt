@@ -1,7 +1,7 @@
 // Whether a sheet is one-sided, in two ways: by the facts that each row reaches, and by following each chain of naming.
-use crate::kinds::*;
-use crate::second::reading::{Entry, Reading};
+use crate::second::reading::Reading;
 use crate::second::set::Set;
+use crate::second::task::Task;
 use std::alloc::{AllocError, Global};
 
 // The facts that are reached.
@@ -22,13 +22,13 @@ impl Reached {
     fn with(self, fact: u8, turned: bool) -> Reached {
         if turned {
             Reached {
-                plain: self.plain,
                 turned: self.turned.with(fact),
+                ..self
             }
         } else {
             Reached {
                 plain: self.plain.with(fact),
-                turned: self.turned,
+                ..self
             }
         }
     }
@@ -48,30 +48,31 @@ impl Reached {
     }
 
     fn one_sided(self) -> bool {
-        self.plain.common(self.turned).lowest().is_none()
+        self.plain.common(self.turned).is_empty()
     }
 }
 
 // What a row reaches, from what the lower rows reach.
-fn reached_by(entry: Entry, lower: &[Reached]) -> Reached {
-    if entry.kind == HOLD || entry.kind == HOLD_OFF {
-        return Reached::none().with(entry.q, entry.kind == HOLD_OFF);
+fn reached_by(task: Task, lower: &[Reached]) -> Reached {
+    let below = task
+        .named()
+        .into_iter()
+        .flatten()
+        .filter_map(|row| lower.get(usize::from(row)))
+        .fold(Reached::none(), |all, one| all.joined(*one));
+    match task {
+        Task::Hold { fact, .. } => Reached::none().with(fact, false),
+        Task::HoldOff { fact, .. } => Reached::none().with(fact, true),
+        Task::Not { .. } => below.over(),
+        _ => below,
     }
-    let mut all = Reached::none();
-    for named in entry.named() {
-        if let Some(row) = named {
-            let below = lower.get(usize::from(row)).copied();
-            all = all.joined(below.unwrap_or(Reached::none()));
-        }
-    }
-    if entry.kind == NOT { all.over() } else { all }
 }
 
 pub(crate) fn by_facts(heap: Global, reading: &Reading) -> Result<bool, AllocError> {
     let mut reached = Vec::new(heap);
     let mut last = Reached::none();
-    for entry in reading.rows.iter() {
-        last = reached_by(*entry, reached.as_slice());
+    for line in reading.lines.iter() {
+        last = reached_by(line.task(), reached.as_slice());
         reached.push(last)?;
     }
     Ok(last.one_sided())
@@ -82,15 +83,6 @@ pub(crate) fn by_facts(heap: Global, reading: &Reading) -> Result<bool, AllocErr
 struct Chain {
     row: u8,
     odd: bool,
-}
-
-fn go_on(chains: &mut Vec<Chain>, entry: Entry, odd: bool) -> Result<(), AllocError> {
-    for named in entry.named() {
-        if let Some(row) = named {
-            chains.push(Chain { row, odd })?;
-        }
-    }
-    Ok(())
 }
 
 // The same by each chain on its own. Shared rows can make too many of them: then there is no answer.
@@ -105,13 +97,15 @@ pub(crate) fn by_chains(heap: Global, reading: &Reading) -> Result<Option<bool>,
         let Some(Chain { row, odd }) = chains.pop() else {
             return Ok(Some(reached.one_sided()));
         };
-        let entry = reading.entry(row);
-        match entry.kind {
-            HOLD => reached = reached.with(entry.q, odd),
-            HOLD_OFF => reached = reached.with(entry.q, !odd),
-            NOT => go_on(&mut chains, entry, !odd)?,
-            _ => go_on(&mut chains, entry, odd)?,
+        let task = reading.task(row);
+        match task {
+            Task::Hold { fact, .. } => reached = reached.with(fact, odd),
+            Task::HoldOff { fact, .. } => reached = reached.with(fact, !odd),
+            _ => {}
         }
+        let odd = odd != matches!(task, Task::Not { .. });
+        let named = task.named().into_iter().flatten();
+        chains.extend(named.map(|row| Chain { row, odd }))?;
     }
     Ok(None)
 }
