@@ -9,7 +9,7 @@ use Rattle.grade.specs.Voices.{word}
 use Rattle.grade.specs.declared.voices.Voices.{Voices}
 use Rattle.bench.specs.Words.{word_at, words, decoded}
 
-words_size : (bytes : List ℕ) (n : ℕ) → length (words bytes n) ≡ n
+pub words_size : (bytes : List ℕ) (n : ℕ) → length (words bytes n) ≡ n
 words_size bytes zero = refl
 words_size bytes (suc n) = length-append (words bytes n) (word_at bytes n ∷ []) ∙ omega (arith, words_size bytes n)
 

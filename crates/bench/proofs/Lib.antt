@@ -1,2 +1,3 @@
-mod Decoding
-mod Taking
+pub mod Decoding
+pub mod Taking
+pub mod Telling

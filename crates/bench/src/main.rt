@@ -1,6 +1,11 @@
 // Judges a patch by its sheet as the frames come in, from standard input or from the file that is named.
 #![tactic(auto)]
 
+ghost use Rattle.std.specs.Prelude.{IfSome, OnOk};
+ghost use Rattle.std.specs.Io.KnownBytes.{Appends};
+ghost use Rattle.sheet.specs.Sheets.{sheet_of};
+ghost use Rattle.bench.specs.Lines.{take_lines};
+
 mod frames;
 mod input;
 mod step;
@@ -12,6 +17,7 @@ use grade::{Span, Voices};
 use report::notice;
 use sheet::fault::Fault;
 use sheet::record::Sheet;
+use std::alloc::Global;
 use std::io::{Read, Write};
 use std::{env, fs, io};
 use watch::record::Watch;
@@ -23,20 +29,29 @@ fn refuse(rt: &HostRuntime, fault: Fault) -> io::Result<()> {
 }
 
 // A line after each frame, before the next is read; no more frames than a take has.
-fn judge_frames<R: Read>(rt: &HostRuntime, input: &mut R, sheet: &Sheet) -> io::Result<()> {
+fn judge_frames<R: Read, W: Write>(
+    heap: Global,
+    input: &mut R,
+    output: &mut W,
+    sheet: &Sheet,
+) -> io::Result<()>
+    ensures { OnOk result (IfSome (R.remaining input.old) (λ frames. Appends (W.contents output.old) (W.contents output.new) (take_lines (sheet_of sheet.now) frames))) }
+{
     let facts = sheet.facts() as usize;
     let frames = sheet.length() as usize + 1;
-    let mut log = vec![in rt.alloc(); Voices::new(0); facts * frames]?;
-    let mut chart = vec![in rt.alloc(); Span::<Voices>::unknown(); sheet.rows().len() * frames]?;
+    let mut grades = vec![in heap; Voices::new(0); facts * frames]?;
+    let mut spans = vec![in heap; Span::<Voices>::unknown(); sheet.rows().len() * frames]?;
+    let log = grades.as_mut_slice();
+    let chart = spans.as_mut_slice();
     let mut watch = Watch::start(sheet);
-    for _ in 0..frames {
-        let Some(frame) = next_frame(rt.alloc(), input, facts)? else {
+    for _accepted in 0..frames {
+        let Some(frame) = next_frame(heap, input, facts)? else {
             break;
         };
-        let Ok(text) = step(&mut watch, &mut log, &mut chart, &frame) else {
+        let Ok(text) = step(&mut watch, log, chart, &frame) else {
             break;
         };
-        rt.stdout().write_all(&text)?;
+        output.write_all(&text)?;
     }
     Ok(())
 }
@@ -46,7 +61,7 @@ fn run<R: Read>(rt: &HostRuntime, input: &mut R) -> io::Result<()> {
     let bytes = sheet_bytes(input, &mut buffer)?;
     let mut sheet = Sheet::new();
     match sheet.load(bytes) {
-        Ok(()) => judge_frames(rt, input, &sheet),
+        Ok(()) => judge_frames(rt.alloc(), input, &mut io::writer(rt), &sheet),
         Err(fault) => refuse(rt, fault),
     }
 }
