@@ -1,1 +1,3 @@
-mod Decoding
+pub mod Decoding
+pub mod Taking
+pub mod Telling

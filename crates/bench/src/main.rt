@@ -1,19 +1,23 @@
 // Judges a patch by its sheet as the frames come in, from standard input or from the file that is named.
 #![tactic(auto)]
 
-ghost use Rattle.std.specs.Prelude.{◌≤◌, IfOk};
+ghost use Rattle.std.specs.Prelude.{IfSome, OnOk};
+ghost use Rattle.std.specs.Io.KnownBytes.{Appends};
+ghost use Rattle.sheet.specs.Sheets.{sheet_of};
+ghost use Rattle.bench.specs.Lines.{take_lines};
 
 mod frames;
 mod input;
 mod step;
 
-use crate::frames::decode;
-use crate::input::fill;
+use crate::frames::next_frame;
+use crate::input::sheet_bytes;
 use crate::step::step;
 use grade::{Span, Voices};
 use report::notice;
 use sheet::fault::Fault;
 use sheet::record::Sheet;
+use std::alloc::Global;
 use std::io::{Read, Write};
 use std::{env, fs, io};
 use watch::record::Watch;
@@ -24,53 +28,40 @@ fn refuse(rt: &HostRuntime, fault: Fault) -> io::Result<()> {
     rt.stdout().write_all(&place)
 }
 
-// The next frame of so many facts, unless the input ends before it is whole.
-fn next_frame<R: Read>(input: &mut R, facts: usize, frame: &mut [Voices; 16]) -> io::Result<bool>
-    requires { facts ≤ 16 }
-{
-    let mut bytes = [0; 32];
-    if fill(input, &mut bytes[0..2 * facts])? < 2 * facts {
-        return Ok(false);
-    }
-    decode(&bytes, facts, frame);
-    Ok(true)
-}
-
 // A line after each frame, before the next is read; no more frames than a take has.
-fn judge_frames<R: Read>(rt: &HostRuntime, input: &mut R, sheet: &Sheet) -> io::Result<()> {
+fn judge_frames<R: Read, W: Write>(
+    heap: Global,
+    input: &mut R,
+    output: &mut W,
+    sheet: &Sheet,
+) -> io::Result<()>
+    ensures { OnOk result (IfSome (R.remaining input.old) (λ frames. Appends (W.contents output.old) (W.contents output.new) (take_lines (sheet_of sheet.now) frames))) }
+{
     let facts = sheet.facts() as usize;
     let frames = sheet.length() as usize + 1;
-    let mut log = vec![in rt.alloc(); Voices::new(0); facts * frames]?;
-    let mut chart = vec![in rt.alloc(); Span::<Voices>::unknown(); sheet.rows().len() * frames]?;
+    let mut grades = vec![in heap; Voices::new(0); facts * frames]?;
+    let mut spans = vec![in heap; Span::<Voices>::unknown(); sheet.rows().len() * frames]?;
+    let log = grades.as_mut_slice();
+    let chart = spans.as_mut_slice();
     let mut watch = Watch::start(sheet);
-    let mut frame = [Voices::new(0); 16];
-    for _ in 0..frames {
-        if !next_frame(input, facts, &mut frame)? {
-            break;
-        }
-        let Ok(text) = step(&mut watch, &mut log, &mut chart, &frame[0..facts]) else {
+    for _accepted in 0..frames {
+        let Some(frame) = next_frame(heap, input, facts)? else {
             break;
         };
-        rt.stdout().write_all(&text)?;
+        let Ok(text) = step(&mut watch, log, chart, &frame) else {
+            break;
+        };
+        output.write_all(&text)?;
     }
     Ok(())
 }
 
-// The sheet's bytes: as many as the first byte says, or as many as come.
-fn sheet_bytes<R: Read>(input: &mut R, bytes: &mut [u8; 255]) -> io::Result<usize>
-    ensures { IfOk result (λ n. n ≤ 255) }
-{
-    let mut size = [0];
-    let _ = fill(input, &mut size)?;
-    fill(input, &mut bytes[0..size[0] as usize])
-}
-
 fn run<R: Read>(rt: &HostRuntime, input: &mut R) -> io::Result<()> {
-    let mut bytes = [0; 255];
-    let count = sheet_bytes(input, &mut bytes)?;
+    let mut buffer = [0; 255];
+    let bytes = sheet_bytes(input, &mut buffer)?;
     let mut sheet = Sheet::new();
-    match sheet.load(&bytes[0..count]) {
-        Ok(()) => judge_frames(rt, input, &sheet),
+    match sheet.load(bytes) {
+        Ok(()) => judge_frames(rt.alloc(), input, &mut io::writer(rt), &sheet),
         Err(fault) => refuse(rt, fault),
     }
 }

@@ -8,7 +8,7 @@ ghost use Rattle.bench.specs.Steps.{step_answer};
 
 use grade::{Span, Voice, Voices};
 use refusal::Refusal;
-use report::line;
+use report::line_bytes;
 use watch::judge::judge;
 use watch::record::Watch;
 
@@ -28,14 +28,11 @@ pub fn step(
 {
     watch.feed(log, frame)?;
     let mark = judge::<Voice>(watch, log, chart)?;
-    let mut text = [0; 19];
-    line(
-        &mut text,
+    Ok(line_bytes(
         watch.accepted(),
         mark.span.low.bits(),
         mark.span.high.bits(),
-    )?;
-    Ok(text)
+    ))
 }
 
 #[cfg(test)]

@@ -1,39 +1,58 @@
 // A sheet in words that a designer can read.
 #![tactic(auto)]
 
-ghost use Rattle.std.specs.Prelude.{◌≡◌, IfOk, string_bytes};
+ghost use Rattle.std.specs.Prelude.{◌≡◌, Some, IfOk, string_bytes};
 ghost use Rattle.sheet.specs.Loading.{load_result};
 ghost use Rattle.sheet.specs.Sheets.{sheet_of};
-ghost use Rattle.listing.specs.Words.{task_text, row_line, sides_text, head_line, listing_text, Tells};
+ghost use Rattle.listing.specs.Words.{task_text, row_line, sides_text, listing_text, Tells};
 
-use report::notice;
+use report::notice_bytes;
 use sheet::record::Sheet;
 use sheet::row::Row;
 use std::alloc::{AllocError, Global};
+use std::fmt;
 
 // What a row asks for.
-fn task(heap: Global, row: Row) -> Result<String, AllocError>
-    ensures { IfOk result (λ t. string_bytes t ≡ task_text row) }
-{
-    match row {
-        Row::Always => String::from_str(heap, "always"),
-        Row::Hold { duration, fact } => format!(in heap; "hold {duration} of fact {fact}"),
-        Row::HoldOff { duration, fact } => format!(in heap; "hold-off {duration} of fact {fact}"),
-        Row::Both { left, right } => format!(in heap; "both row {left} and row {right}"),
-        Row::Either { left, right } => format!(in heap; "either row {left} or row {right}"),
-        Row::Not { row } => format!(in heap; "not row {row}"),
-        Row::Then { left, right } => format!(in heap; "row {left} then row {right}"),
-        Row::Within { from, to, row } => format!(in heap; "within {from} to {to} of row {row}"),
+#[derive(Clone, Copy)]
+struct Task(Row);
+
+impl fmt::Display for Task {
+    ghost output = { λ task. Some (task_text task.0) };
+
+    fn fmt<W: fmt::Write>(&self, f: &mut fmt::Formatter<W>) -> fmt::Result {
+        match self.0 {
+            Row::Always => write!(f, "always"),
+            Row::Hold { duration, fact } => write!(f, "hold {duration} of fact {fact}"),
+            Row::HoldOff { duration, fact } => write!(f, "hold-off {duration} of fact {fact}"),
+            Row::Both { left, right } => write!(f, "both row {left} and row {right}"),
+            Row::Either { left, right } => write!(f, "either row {left} or row {right}"),
+            Row::Not { row } => write!(f, "not row {row}"),
+            Row::Then { left, right } => write!(f, "row {left} then row {right}"),
+            Row::Within { from, to, row } => write!(f, "within {from} to {to} of row {row}"),
+        }
     }
 }
 
-// The line of row k.
-fn line_of(heap: Global, k: usize, row: Row, length: u8) -> Result<String, AllocError>
-    ensures { IfOk result (λ t. string_bytes t ≡ row_line k row length) }
-{
-    let text = task(heap, row)?;
-    let asked = text.as_str();
-    format!(in heap; "{k}  {asked}, length {length}\n")
+// The line of a row.
+#[derive(Clone, Copy)]
+struct Line {
+    index: usize,
+    row: Row,
+    length: u8,
+}
+
+impl fmt::Display for Line {
+    ghost output = { λ line. Some (row_line line.index line.row line.length) };
+
+    fn fmt<W: fmt::Write>(&self, f: &mut fmt::Formatter<W>) -> fmt::Result {
+        write!(
+            f,
+            "{}  {}, length {}\n",
+            self.index,
+            Task(self.row),
+            self.length
+        )
+    }
 }
 
 fn sides(sided: bool) -> &'static str
@@ -42,26 +61,43 @@ fn sides(sided: bool) -> &'static str
     if sided { "one-sided" } else { "not one-sided" }
 }
 
-// The first line: the sizes, the rule's length, and whether each fact is reached one way only.
-fn head(heap: Global, facts: u8, rows: usize, length: u8, sided: bool) -> Result<String, AllocError>
-    ensures { IfOk result (λ t. string_bytes t ≡ head_line facts rows length sided) }
-{
-    let way = sides(sided);
-    format!(in heap; "facts {facts}, rows {rows}, length {length}, {way}\n")
+// A sheet, and whether each of its facts is reached one way only.
+#[derive(Clone, Copy)]
+struct InWords<'a> {
+    sheet: &'a Sheet,
+    sided: bool,
+}
+
+impl fmt::Display for InWords<'_> {
+    ghost output = { λ words. Some (listing_text (sheet_of words.sheet.now) words.sided) };
+
+    fn fmt<W: fmt::Write>(&self, f: &mut fmt::Formatter<W>) -> fmt::Result {
+        let rows = self.sheet.rows();
+        write!(
+            f,
+            "facts {}, rows {}, length {}, {}\n",
+            self.sheet.facts(),
+            rows.len(),
+            self.sheet.length(),
+            sides(self.sided)
+        )?;
+        for (index, (row, length)) in rows.iter().zip(self.sheet.lengths()).enumerate() {
+            let line = Line {
+                index,
+                row: *row,
+                length: *length,
+            };
+            write!(f, "{line}")?;
+        }
+        Ok(())
+    }
 }
 
 // The whole listing of a sheet.
 pub fn listing(heap: Global, sheet: &Sheet, sided: bool) -> Result<String, AllocError>
     ensures { IfOk result (λ t. string_bytes t ≡ listing_text (sheet_of sheet.now) sided) }
 {
-    let rows = sheet.rows();
-    let lengths = sheet.lengths();
-    let mut text = head(heap, sheet.facts(), rows.len(), sheet.length(), sided)?;
-    for (k, row) in rows.iter().enumerate() {
-        let line = line_of(heap, k, *row, lengths[k])?;
-        text.push_str(line.as_str())?;
-    }
-    Ok(text)
+    InWords { sheet, sided }.to_string(heap)
 }
 
 // What is to be told of any bytes: the listing of the sheet that they are, or the notice of why they are none.
@@ -75,9 +111,8 @@ pub fn told(heap: Global, bytes: &[u8]) -> Result<Vec<u8>, AllocError>
             Vec::from_slice(heap, text.as_bytes())
         }
         Err(fault) => {
-            let mut place = [0; 14];
-            let _ = notice(&mut place, fault.refusal.number(), fault.row);
-            Vec::from_slice(heap, &place)
+            let text = notice_bytes(fault.refusal.number(), fault.row);
+            Vec::from_slice(heap, &text)
         }
     }
 }

@@ -6,40 +6,30 @@ ghost use Rattle.std.specs.Prelude.{◌≤◌};
 use grade::{Span, Voices};
 use sheet::record::Sheet;
 use std::alloc::{AllocError, Global};
-use std::env;
+use std::{env, iter};
 use watch::record::Watch;
 
 // Sixteen facts; a hold of 127 for each; fifteen boths that join them in a tree; that within 0 to 255.
 fn heaviest(heap: Global) -> Result<Vec<u8>, AllocError> {
     let mut bytes = vec![in heap; 16, 32]?;
-    for k in 0..32u8 {
-        bytes.push(if k < 16 {
-            1
-        } else if k < 31 {
-            3
-        } else {
-            7
-        })?;
-    }
-    for k in 0..16u8 {
-        bytes.extend_from_slice(&[127, k, 0])?;
-    }
-    for k in 0..15u8 {
-        bytes.extend_from_slice(&[2 * k, 2 * k + 1, 0])?;
-    }
+    bytes.extend(iter::repeat_n(1, 16))?;
+    bytes.extend(iter::repeat_n(3, 15))?;
+    bytes.push(7)?;
+    bytes.extend((0..16).flat_map(|fact| [127, fact, 0]))?;
+    bytes.extend((0..15u8).flat_map(|pair| [2 * pair, 2 * pair + 1, 0]))?;
     bytes.extend_from_slice(&[0, 255, 30])?;
     Ok(bytes)
 }
 
 // 256 frames of words that look random, with the low eight voices always there.
 fn frames(heap: Global) -> Result<Vec<Voices>, AllocError> {
-    let mut words = Vec::new(heap);
     let mut x = 1u32;
-    for _ in 0..4096 {
+    iter::repeat_with(|| {
         x = x.wrapping_mul(1_664_525).wrapping_add(1_013_904_223);
-        words.push(Voices::new(((x >> 16) & 0xffff) as u16 | 0xff))?;
-    }
-    Ok(words)
+        Voices::new((x >> 16) as u16 | 0xff)
+    })
+    .take(4096)
+    .collect(heap)
 }
 
 // The frames that are to be accepted before mark m of so many: from 1 to 256, evenly spread.
@@ -61,8 +51,8 @@ fn cost(heap: Global, marks: u32) -> Result<Span<Voices>, AllocError> {
     for m in 0..marks {
         let from = watch.accepted() as usize * 16;
         let to = due(m, marks) * 16;
-        if from <= to && to <= strip.len() {
-            let _ = watch.feed(&mut log, &strip[from..to]);
+        if let Some(part) = strip.get(from..to) {
+            let _ = watch.feed(&mut log, part);
         }
         if let Ok(mark) = watch.mark(&log, &mut chart) {
             last = mark.span;

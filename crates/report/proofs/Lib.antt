@@ -1,3 +1,3 @@
 pub mod Forms
-pub mod Digits
+pub mod Numerals
 pub mod Filled

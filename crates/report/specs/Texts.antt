@@ -1,9 +1,14 @@
 -- The two texts of fixed form, byte by byte.
-use Rattle.std.specs.Prelude.{◌≡◌, ℕ, ◌+◌, ◌-◌, ◌*◌, ◌/◌, ◌%◌, ◌<◌, cond, List, [], ◌∷◌, ◌++◌, length, codes, ◌==◌, nat_lt}
+use Rattle.std.specs.Prelude.{◌≡◌, ℕ, zero, suc, ◌+◌, ◌-◌, ◌*◌, ◌/◌, ◌%◌, ◌^◌, ◌<◌, ◌≤◌, cond, List, [], ◌∷◌, ◌++◌, length, codes, ◌==◌, nat_lt}
 
 -- the digit of a value below 16: 0 to 9, then a to f
 abbrev pub digit : ℕ → ℕ
 digit d = cond (nat_lt d 10) (48 + d) (87 + d)
+
+-- the last digits of a number in a base, in so many places
+abbrev pub digits_in : (base places n : ℕ) → List ℕ
+digits_in base zero n = []
+digits_in base (suc k) n = digits_in base k (n / base) ++ digit (n % base) ∷ []
 
 abbrev pub two_digits : ℕ → List ℕ
 two_digits n = digit (n / 10) ∷ digit (n % 10) ∷ []
@@ -54,3 +59,15 @@ ReadBack =
     ((n : ℕ) → n < 100 → value_from 10 0 (two_digits n) ≡ n)
     × ((n : ℕ) → n < 1000 → value_from 10 0 (three_digits n) ≡ n)
     × ((n : ℕ) → n < 65536 → value_from 16 0 (four_hex n) ≡ n)
+
+-- the rows of digits that the texts have are the last digits in their base
+abbrev pub SameDigits : Type 0
+SameDigits =
+    ((n : ℕ) → n < 100 → digits_in 10 2 n ≡ two_digits n)
+    × ((n : ℕ) → n < 1000 → digits_in 10 3 n ≡ three_digits n)
+    × ((n : ℕ) → n < 256 → digits_in 16 2 n ≡ two_hex n)
+    × ((n : ℕ) → n < 65536 → digits_in 16 4 n ≡ four_hex n)
+
+-- the last digits of a number that has room are worth that number, in each base up to 16
+abbrev pub DigitsReadBack : Type 0
+DigitsReadBack = (base places n : ℕ) → 2 ≤ base → base ≤ 16 → n < base ^ places → value_from base 0 (digits_in base places n) ≡ n

@@ -3,80 +3,60 @@
 
 ghost use Rattle.std.specs.Prelude.{◌≡◌, ◌<◌, ◌≤◌, length};
 ghost use Rattle.report.specs.Places.{WrittenInto, OneOutcome};
-ghost use Rattle.report.specs.Texts.{digit, two_digits, three_digits, two_hex, four_hex, state_text, notice_text, line_text};
-ghost use Rattle.report.specs.Texts.{Examples, Sizes, ReadBack};
+ghost use Rattle.report.specs.Texts.{digit, digits_in, notice_text, line_text};
+ghost use Rattle.report.specs.Texts.{Examples, Sizes, SameDigits, DigitsReadBack, ReadBack};
 
 use refusal::Refusal;
 
 // The digit of a value below 16.
-fn digit_of(value: u8) -> u8
+fn digit_of(value: u16) -> u8
     requires { value < 16 }
     ensures { result ≡ digit value }
 {
     if value < 10 {
-        b'0' + value
+        b'0' + value as u8
     } else {
-        b'a' + (value - 10)
+        b'a' + (value - 10) as u8
     }
 }
 
-fn two_decimal(value: u8) -> [u8; 2]
-    requires { value < 100 }
-    ensures { result ≡ two_digits value }
+// The last N digits of a value.
+fn digits<const BASE: u16, const N: usize>(value: u16) -> [u8; N]
+    requires { (2 ≤ BASE) × (BASE ≤ 16) }
+    ensures { result ≡ digits_in BASE N value }
 {
-    [digit_of(value / 10), digit_of(value % 10)]
+    let mut digits = [b'0'; N];
+    let mut rest = value;
+    for place in (0..N).rev() {
+        digits[place] = digit_of(rest % BASE);
+        rest /= BASE;
+    }
+    digits
 }
 
-fn three_decimal(value: u16) -> [u8; 3]
-    requires { value < 1000 }
-    ensures { result ≡ three_digits value }
-{
-    let [tens, ones] = two_decimal((value % 100) as u8);
-    [digit_of((value / 100) as u8), tens, ones]
-}
-
-fn two_hexadecimal(value: u8) -> [u8; 2]
-    ensures { result ≡ two_hex value }
-{
-    [digit_of(value / 16), digit_of(value % 16)]
-}
-
-fn four_hexadecimal(value: u16) -> [u8; 4]
-    ensures { result ≡ four_hex value }
-{
-    let [a, b] = two_hexadecimal((value / 256) as u8);
-    let [c, d] = two_hexadecimal((value % 256) as u8);
-    [a, b, c, d]
-}
-
-fn state(low: u16, high: u16) -> [u8; 4]
-    ensures { result ≡ state_text low high }
-{
-    if low == high { *b"shut" } else { *b"open" }
-}
-
-// `refused NN RR` as a line.
-fn notice_bytes(number: u8, row: u8) -> [u8; 14]
+// `refused NN RR`, the number and the row of a refusal in two digits each, as a line.
+pub fn notice_bytes(number: u8, row: u8) -> [u8; 14]
     requires { (number < 100) × (row < 100) }
     ensures { result ≡ notice_text number row }
 {
     let mut text = *b"refused 00 00\n";
-    text[8..10].copy_from_slice(&two_decimal(number));
-    text[11..13].copy_from_slice(&two_decimal(row));
+    text[8..10].copy_from_slice(&digits::<10, 2>(number.into()));
+    text[11..13].copy_from_slice(&digits::<10, 2>(row.into()));
     text
 }
 
-// `CCC LLLL HHHH open` or `CCC LLLL HHHH shut` as a line.
-fn line_bytes(count: u16, low: u16, high: u16) -> [u8; 19]
+// `CCC LLLL HHHH open` as a line: the accepted count, and its low and its high end in hexadecimal;
+// `shut` stands for `open` where the two ends are equal.
+pub fn line_bytes(count: u16, low: u16, high: u16) -> [u8; 19]
     requires { count < 1000 }
     ensures text { result ≡ line_text count low high }
     ensures size { length (line_text count low high) ≡ 19 }
 {
     let mut text = *b"000 0000 0000 open\n";
-    text[0..3].copy_from_slice(&three_decimal(count));
-    text[4..8].copy_from_slice(&four_hexadecimal(low));
-    text[9..13].copy_from_slice(&four_hexadecimal(high));
-    text[14..18].copy_from_slice(&state(low, high));
+    text[0..3].copy_from_slice(&digits::<10, 3>(count));
+    text[4..8].copy_from_slice(&digits::<16, 4>(low));
+    text[9..13].copy_from_slice(&digits::<16, 4>(high));
+    text[14..18].copy_from_slice(if low == high { b"shut" } else { b"open" });
     text
 }
 
@@ -91,7 +71,7 @@ fn write(place: &mut [u8], text: &[u8]) -> Result<usize, Refusal>
     Ok(text.len())
 }
 
-// Writes `refused NN RR`, the number and the row of a refusal in two digits each, as a line.
+// Writes the notice of a number and a row to the front of a place.
 pub fn notice(place: &mut [u8], number: u8, row: u8) -> Result<usize, Refusal>
     ensures { WrittenInto (notice_text number row) ((14 ≤ length place.old) × (number ≤ 99) × (row ≤ 99)) place.old place.new result }
 {
@@ -101,8 +81,7 @@ pub fn notice(place: &mut [u8], number: u8, row: u8) -> Result<usize, Refusal>
     write(place, &notice_bytes(number, row))
 }
 
-// Writes `CCC LLLL HHHH open` as a line: the accepted count, and its low and its high end in
-// hexadecimal; `shut` stands for `open` where the two ends are equal.
+// Writes the line of a count and its two ends to the front of a place.
 pub fn line(place: &mut [u8], count: u16, low: u16, high: u16) -> Result<usize, Refusal>
     ensures { WrittenInto (line_text count low high) ((19 ≤ length place.old) × (count ≤ 256)) place.old place.new result }
 {
@@ -112,11 +91,13 @@ pub fn line(place: &mut [u8], count: u16, low: u16, high: u16) -> Result<usize, 
     write(place, &line_bytes(count, low, high))
 }
 
-// Of the texts themselves: some examples, that each has one size, that digits read back as their number, and that what becomes of a
-// place is settled.
+// Of the texts themselves: some examples, that each has one size, that their digits are those of the number in its base and read
+// back as that number, and that what becomes of a place is settled.
 fn texts_stand()
     ensures examples { Examples }
     ensures sizes { Sizes }
+    ensures same_digits { SameDigits }
+    ensures digits_read_back { DigitsReadBack }
     ensures read_back { ReadBack }
     ensures one_outcome { OneOutcome }
 {}
