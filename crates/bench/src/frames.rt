@@ -1,28 +1,27 @@
 // Frames of voices, as the engine sends them: a word for each fact, its low byte first.
-ghost use Rattle.std.specs.Prelude.{◌≡◌, ◌/◌, ◌*◌, ◌≤◌, [], length, IfOk, MatchOption};
+ghost use Rattle.std.specs.Prelude.{◌≡◌, ◌*◌, ◌≤◌, length, IfOk, MatchOption};
 ghost use Rattle.bench.specs.Words.{Decoded, decoded};
 ghost use Rattle.bench.specs.Reading.{ReadsFrame, FallsShort};
 
 use crate::input::fill;
 use grade::Voices;
-use std::alloc::{AllocError, Global};
+use std::alloc::Global;
 use std::io;
 use std::io::Read;
 
-// The words that the bytes of a frame are.
-fn decode(heap: Global, bytes: &[u8]) -> Result<Vec<Voices>, AllocError>
-    ensures words { IfOk result (λ frame. Decoded bytes.now frame.items (length bytes.now / 2)) }
-    ensures whole { IfOk result (λ frame. frame.items ≡ decoded bytes.now [] (length bytes.now / 2)) }
+// The words of a frame, from its bytes.
+pub fn decode(bytes: &[u8], frame: &mut [Voices])
+    requires { length bytes.now ≡ 2 * length frame.old }
+    ensures words { Decoded bytes.now frame.new (length frame.old) }
+    ensures whole { frame.new ≡ decoded bytes.now frame.old (length frame.old) }
 {
-    let (words, _) = bytes.as_chunks::<2>();
-    words
-        .iter()
-        .map(|word| Voices::new(u16::from_le_bytes(*word)))
-        .collect(heap)
+    for (f, word) in frame.iter_mut().enumerate() {
+        *word = Voices::new(u16::from_le_bytes([bytes[2 * f], bytes[2 * f + 1]]));
+    }
 }
 
 // The next frame of so many facts, unless the input ends before it is whole.
-pub fn next_frame<R: Read>(
+pub(crate) fn next_frame<R: Read>(
     heap: Global,
     input: &mut R,
     facts: usize,
@@ -37,6 +36,7 @@ pub fn next_frame<R: Read>(
     if bytes.len() < 2 * facts {
         return Ok(None);
     }
-    let frame = decode(heap, bytes)?;
+    let mut frame = vec![in heap; Voices::new(0); facts]?;
+    decode(bytes, &mut frame);
     Ok(Some(frame))
 }

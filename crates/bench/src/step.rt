@@ -8,7 +8,7 @@ ghost use Rattle.bench.specs.Steps.{step_answer};
 
 use grade::{Span, Voice, Voices};
 use refusal::Refusal;
-use report::line_bytes;
+use report::line;
 use watch::judge::judge;
 use watch::record::Watch;
 
@@ -28,11 +28,14 @@ pub fn step(
 {
     watch.feed(log, frame)?;
     let mark = judge::<Voice>(watch, log, chart)?;
-    Ok(line_bytes(
+    let mut text = [0; 19];
+    line(
+        &mut text,
         watch.accepted(),
         mark.span.low.bits(),
         mark.span.high.bits(),
-    ))
+    )?;
+    Ok(text)
 }
 
 #[cfg(test)]

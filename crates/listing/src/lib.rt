@@ -6,7 +6,7 @@ ghost use Rattle.sheet.specs.Loading.{load_result};
 ghost use Rattle.sheet.specs.Sheets.{sheet_of};
 ghost use Rattle.listing.specs.Words.{task_text, row_line, sides_text, listing_text, Tells};
 
-use report::notice_bytes;
+use report::notice;
 use sheet::record::Sheet;
 use sheet::row::Row;
 use std::alloc::{AllocError, Global};
@@ -111,8 +111,9 @@ pub fn told(heap: Global, bytes: &[u8]) -> Result<Vec<u8>, AllocError>
             Vec::from_slice(heap, text.as_bytes())
         }
         Err(fault) => {
-            let text = notice_bytes(fault.refusal.number(), fault.row);
-            Vec::from_slice(heap, &text)
+            let mut place = [0; 14];
+            let _ = notice(&mut place, fault.refusal.number(), fault.row);
+            Vec::from_slice(heap, &place)
         }
     }
 }

@@ -35,7 +35,7 @@ fn digits<const BASE: u16, const N: usize>(value: u16) -> [u8; N]
 }
 
 // `refused NN RR`, the number and the row of a refusal in two digits each, as a line.
-pub fn notice_bytes(number: u8, row: u8) -> [u8; 14]
+fn notice_bytes(number: u8, row: u8) -> [u8; 14]
     requires { (number < 100) × (row < 100) }
     ensures { result ≡ notice_text number row }
 {
@@ -47,7 +47,7 @@ pub fn notice_bytes(number: u8, row: u8) -> [u8; 14]
 
 // `CCC LLLL HHHH open` as a line: the accepted count, and its low and its high end in hexadecimal;
 // `shut` stands for `open` where the two ends are equal.
-pub fn line_bytes(count: u16, low: u16, high: u16) -> [u8; 19]
+fn line_bytes(count: u16, low: u16, high: u16) -> [u8; 19]
     requires { count < 1000 }
     ensures text { result ≡ line_text count low high }
     ensures size { length (line_text count low high) ≡ 19 }

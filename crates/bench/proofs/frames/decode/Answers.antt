@@ -1,17 +1,16 @@
-use Rattle.std.proofs.Common.{◌/◌, length, get_or, ap, sym, ◌∙◌, rules, tests, arith}
-use Rattle.std.proofs.lemmas.Iterator.{items_from_collect, YieldsList-from_slice, YieldsList-from_map}
-use Rattle.std.proofs.lemmas.Result.{IfOk-weaker}
-use Rattle.std.specs.Simd.{first_chunks}
-use Rattle.bench.proofs.Decoding.{little, words_chunks, word_there, decoded_alone}
+use Rattle.std.proofs.Common.{◌+◌, ◌*◌, get_or, drop, set, ap, ◌∙◌, mul_comm, arith}
+use Rattle.grade.specs.Voices.{word}
+use Rattle.bench.proofs.Decoding.{one_more, word_there}
 use Rattle.bench.proofs.frames.decode.Goals as goal
 
-pub returns : goal.returns
-returns c =
-    let bytes = c.args.bytes.now in
-    let n = length bytes / 2 in
-    let chunks = first_chunks 2 n bytes in
-    let items = items_from_collect _ c.collect.ensures.ran (YieldsList-from_map _ little (YieldsList-from_slice chunks (cc)) c.map.ensures.closure (λ x r q k. search (rules, tests))) in
-    record {
-      words = IfOk-weaker c.collect.result _ _ (λ frame e. λ f d h. ap (λ l. get_or l f d) (e ∙ words_chunks n bytes (omega arith) ∙ sym (decoded_alone bytes n)) ∙ word_there bytes n _ f d h) items;
-      whole = IfOk-weaker c.collect.result _ _ (λ frame e. e ∙ words_chunks n bytes (omega arith) ∙ sym (decoded_alone bytes n)) items;
-    }
+pub loop-f-preserved : goal.loop-f-preserved
+loop-f-preserved c =
+    let low = get_or c.args.bytes.now (2 * c.loop-f.f) 0 in
+    let high = get_or c.args.bytes.now (2 * c.loop-f.f + 1) 0 in
+    ap (λ frame. set frame c.loop-f.f c.new.result) c.loop-f.invariant
+    ∙ one_more c.args.bytes.now c.args.frame.now c.loop-f.f c.new.result c.loop-f-test.true
+    (c.new.ensures.whole ∙ ap word c.from_le_bytes.ensures ∙ (λ i. word (low + mul_comm high 256 i)))
+
+pub returns-clause-words : goal.returns-clause-words
+returns-clause-words c = λ f d h.
+    ap (λ frame. get_or frame f d) c.loop-f.invariant ∙ word_there c.args.bytes.now c.loop-f.f (drop c.loop-f.f c.args.frame.now) f d (omega arith)
