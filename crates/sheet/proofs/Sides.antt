@@ -220,13 +220,6 @@ module _ (s : Sheet) where
   pub reads_few : (k : ℕ) → k < s.count → all_under 16 (facts_of (rows_of k)) ≡ true
   reads_few k h = all_under_more s.facts 16 (facts_of (rows_of k)) s.few_facts (range_facts s.facts k (rows_of k) (s.right k h))
 
-  -- what a row may hand on
-  pub read_lower : (k : ℕ) → k < s.count → all_under k (named_by (get_or s.rows k Always)) ≡ true
-  read_lower k h = subst (λ r. all_under k (named_by r) ≡ true) (row_is_read k h) (names_lower k h)
-
-  pub read_few : (k : ℕ) → k < s.count → all_under 16 (facts_of (get_or s.rows k Always)) ≡ true
-  read_few k h = subst (λ r. all_under 16 (facts_of r) ≡ true) (row_is_read k h) (reads_few k h)
-
   pub swept_start : Swept s.count (record { rows = set (replicate 32 false) (s.count - 1) true; facts = replicate 16 false }) (record { rows = replicate 32 false; facts = replicate 16 false })
   swept_start = record {
     first = ap (λ k. get_or (set (replicate 32 false) (s.count - 1) true) k false) last_is ∙ get_or-set_same (replicate 32 false) (s.count - 1) true false (omega (arith, s.some_row, s.few_rows));
