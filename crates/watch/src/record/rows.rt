@@ -1,9 +1,11 @@
 // The cells of one row, from the facts or from the cells of the rows that it names.
 ghost use Rattle.std.specs.Prelude.{◌≡◌, ℕ, ◌+◌, ◌-◌, ◌<◌, ◌≤◌, length};
 ghost use Rattle.grade.specs.Spans.{spans};
-ghost use Rattle.formula.specs.Grades.{join_over};
+ghost use Rattle.formula.specs.Formula.{within};
+ghost use Rattle.formula.specs.Grades.{grade};
 ghost use Rattle.formula.specs.Known.{known};
 ghost use Rattle.sheet.specs.Rules.{row_at};
+ghost use Rattle.rule.specs.Meaning.{formula_at};
 ghost use Rattle.watch.specs.Feeding.{progress_of, take_length};
 ghost use Rattle.watch.specs.Marking.{log_trace, seen, row_span};
 ghost use Rattle.watch.specs.Windows.{Holds};
@@ -73,7 +75,7 @@ impl<'a, G: Grade> Basis<'a, G> {
     fn write_within(&self, from: u8, to: u8, row: u8, cells: &mut [Span<G>])
         requires row { row < self.now.at }
         requires size { length cells.old + to ≡ take_length (progress_of self.now.watch.now).sheet }
-        ensures { Holds (λ s. join_over (spans G.Grade.ops) (row_span G.Grade.ops (progress_of self.now.watch.now) self.now.log.now row) (s + from) (to + 1 - (from + long (progress_of self.now.watch.now) row))) cells.new }
+        ensures { Holds (grade (spans G.Grade.ops) (seen G.Grade.ops (progress_of self.now.watch.now) self.now.log.now) (within from to (formula_at (progress_of self.now.watch.now).sheet row))) cells.new }
     {
         let width = (to as usize + 1).saturating_sub(from as usize + self.length(row) as usize);
         if width == 0 {

@@ -1,6 +1,6 @@
-use Rattle.std.proofs.Common.{length, Err, sym, refl, ap, ◌∙◌}
+use Rattle.std.proofs.Common.{length, sym, refl, ap}
 use Rattle.std.proofs.lemmas.Result.{err_from_is_err_and}
-use Rattle.watch.specs.Feeding.{progress_of, accepted_by, advanced, logged}
+use Rattle.watch.specs.Feeding.{progress_of, accepted_by}
 use Rattle.watch.proofs.Feeding.{advanced_none, logged_none, granted_fits}
 use Rattle.watch.proofs.record.Watch.feed.Goals as goal
 
@@ -10,11 +10,11 @@ returns-in_err-taken g c =
     let now = progress_of c.args.self.now in
     let none = ap accepted_by p.1 in
     record {
-      answer = p.1 ∙ ap Err p.2 ∙ c.in_err-taken.ensures;
-      watch = sym (ap (advanced now) none ∙ advanced_none now);
+      answer = cc c.in_err-taken.ensures;
+      watch = rw none (sym (advanced_none now));
       sheet = refl;
       unchanged = λ _. (refl, refl);
-      log = sym (ap (λ n. logged now n c.args.strip.now c.args.log.now) none ∙ logged_none now c.args.strip.now c.args.log.now);
+      log = rw none (sym (logged_none now c.args.strip.now c.args.log.now));
     }
 
 pub write-requires : goal.write-requires

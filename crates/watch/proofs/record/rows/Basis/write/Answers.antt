@@ -1,14 +1,13 @@
-use Rattle.std.proofs.Common.{◌≡◌, ℕ, ◌+◌, ◌-◌, sym, ap, ◌∙◌, add-one, arith}
+use Rattle.std.proofs.Common.{◌≡◌, ℕ, ◌+◌, sym, ap, ◌∙◌, add-one, arith}
 use Rattle.grade.specs.Spans.{spans}
 use Rattle.formula.specs.Formula.{horizon}
-use Rattle.formula.specs.Grades.{meet_over, join_over}
+use Rattle.formula.specs.Grades.{meet_over}
 use Rattle.sheet.specs.Rules.{row_at}
-use Rattle.sheet.proofs.Has.{has_one, has_left, has_right}
+use Rattle.sheet.proofs.Has.{has_one, has_right}
 use Rattle.rule.specs.Meaning.{formula_at}
 use Rattle.rule.proofs.Trees.{horizon_length}
 use Rattle.watch.specs.Feeding.{progress_of}
 use Rattle.watch.specs.Marking.{seen, row_span}
-use Rattle.watch.specs.Cells.{long}
 use Rattle.watch.proofs.Folds.{meets}
 use Rattle.watch.proofs.Charting.{span_is, long_is, named_lower}
 use Rattle.watch.proofs.record.rows.Basis.write.Goals as goal
@@ -18,12 +17,6 @@ pair-requires g c =
     let here = long_is c.args.self.now.ready _ (sym c.in-Both.is ∙ c.requires.row) in
     record { left = omega (arith, here); right = omega (arith, here) }
 
-pub row-requires-in-Either : goal.row-requires-in-Either
-row-requires-in-Either g c = named_lower c.args.self.now.ready _ (sym c.in-Either.is ∙ c.requires.row) _ (has_left _ c.in-Either.right)
-
-pub row-requires-in-Either-2 : goal.row-requires-in-Either-2
-row-requires-in-Either-2 g c = named_lower c.args.self.now.ready _ (sym c.in-Either.is ∙ c.requires.row) _ (has_right c.in-Either.left _)
-
 pub pair-requires-in-Either : goal.pair-requires-in-Either
 pair-requires-in-Either g c =
     let here = long_is c.args.self.now.ready _ (sym c.in-Either.is ∙ c.requires.row) in
@@ -31,12 +24,6 @@ pair-requires-in-Either g c =
 
 pub flips-requires : goal.flips-requires
 flips-requires g c = omega (arith, long_is c.args.self.now.ready _ (sym c.in-Not.is ∙ c.requires.row))
-
-pub length-requires : goal.length-requires
-length-requires g c = named_lower c.args.self.now.ready _ (sym c.in-Then.is ∙ c.requires.row) _ (has_left _ c.in-Then.right)
-
-pub row-requires-in-Then : goal.row-requires-in-Then
-row-requires-in-Then g c = named_lower c.args.self.now.ready _ (sym c.in-Then.is ∙ c.requires.row) _ (has_left _ c.in-Then.right)
 
 pub row_from-requires : goal.row_from-requires
 row_from-requires g c =
@@ -77,9 +64,10 @@ pub returns-in-HoldOff : goal.returns-in-HoldOff
 returns-in-HoldOff g c s d less =
     let self = c.args.self.now in
     let l = spans g.G.Grade.ops in
-    let at = λ (t : ℕ). l.flip (seen g.G.Grade.ops (progress_of self.watch.now) self.log.now t c.in-HoldOff.fact) in
+    let was = λ (t : ℕ). seen g.G.Grade.ops (progress_of self.watch.now) self.log.now t c.in-HoldOff.fact in
+    let at = λ (t : ℕ). l.flip (was t) in
     let width = add-one c.in-HoldOff.duration in
-    c.slide-in-HoldOff.ensures s d less ∙ meets l _ at (λ t. ap l.flip (c.fact-in-HoldOff.ensures t)) s (c.in-HoldOff.duration + 1) ∙ ap (meet_over l at s) width
+    c.slide-in-HoldOff.ensures s d less ∙ meets l _ at (λ t. ap l.flip {y = was t} (c.fact-in-HoldOff.ensures t)) s (c.in-HoldOff.duration + 1) ∙ ap (meet_over l at s) width
     ∙ span_is self.ready _ (sym c.in-HoldOff.is ∙ c.requires.row) s
 
 pub returns-in-Both : goal.returns-in-Both
@@ -108,11 +96,4 @@ returns-in-Then g c s d less =
 
 pub returns-in-Within : goal.returns-in-Within
 returns-in-Within g c s d less =
-    let self = c.args.self.now in
-    let p = progress_of self.watch.now in
-    let l = spans g.G.Grade.ops in
-    let at = row_span g.G.Grade.ops p self.log.now c.in-Within.row in
-    let ahead = horizon_length (row_at p.sheet.rows) c.in-Within.row in
-    let width : c.in-Within.to + 1 - (c.in-Within.from + long p c.in-Within.row) ≡ c.in-Within.to + 1 - (c.in-Within.from + horizon (formula_at p.sheet c.in-Within.row)) = omega (arith, ahead) in
-    c.write_within.ensures s d less ∙ ap (join_over l at (s + c.in-Within.from)) width
-    ∙ span_is self.ready _ (sym c.in-Within.is ∙ c.requires.row) s
+    c.write_within.ensures s d less ∙ span_is c.args.self.now.ready _ (sym c.in-Within.is ∙ c.requires.row) s
