@@ -2,9 +2,9 @@
 use Rattle.std.proofs.Common.{◌≡◌, ℕ, zero, suc, ◌+◌, ◌*◌, ◌/◌, ◌%◌, ◌<◌, ◌≤◌, Ok, Result, MatchOption, List, [], ◌∷◌, ◌++◌, length, get_or, take, drop, Some, None, Option, IfSome, refl, sym, ap, ◌∙◌, subst, append_assoc, append-nil, add-one, add-zero, add-suc, arith, length-take-le, drop_at, take_all}
 use Rattle.std.proofs.lemmas.List.{length-append, length-drop, get_or-drop, get_or_append_left, drop-drop}
 use Rattle.std.proofs.Math.Seq.{take-append-add, take-append_seam}
-use Rattle.std.proofs.Math.Nat.{suc-mul, zero-mul, mul_left_comm, div-eq_of_lt-le, mod_self, div_self, mul_comm, mul-le-mul_right}
+use Rattle.std.proofs.Math.Nat.{suc-mul, mul_left_comm, div-eq_of_lt-le, mod_self, div_self, mul_comm, mul-le-mul_right}
 use Rattle.std.proofs.lemmas.Nat.{le-div}
-use Rattle.std.proofs.KnownBytes.{Appends-nil, Appends-trans}
+use Rattle.std.proofs.KnownBytes.{Appends-trans}
 use Rattle.std.specs.Io.KnownBytes.{Appends, Consumes, IsAtEnd}
 use Rattle.grade.specs.Spans.{spans}
 use Rattle.grade.specs.Voices.{voices, word}
@@ -99,19 +99,6 @@ line_same w n a b same =
 -- and a line has been told after each, where the bytes of the input are known
 abbrev pub ToldSoFar : Written → (before after out told : Option (List ℕ)) → ℕ → List Voices → Type 0
 ToldSoFar w before after out told k log = IfSome before (λ bytes. SoFar w bytes k after log × Appends out told (lines_of w bytes k))
-
-pub told_none : (w : Written) (before out : Option (List ℕ)) (log : List Voices) → ToldSoFar w before before out out 0 log
-told_none w None out log = tt
-told_none w (Some bytes) out log =
-    let bytes_none : 0 * (2 * w.facts) ≡ 0 = zero-mul (2 * w.facts) in
-    let facts_none : 0 * w.facts ≡ 0 = zero-mul w.facts in (
-      record {
-        room = omega (arith, bytes_none);
-        left = ap (λ n. Some (drop n bytes)) (sym bytes_none);
-        front = ap (λ n. take n log) facts_none ∙ ap (words bytes) (sym facts_none);
-      },
-      Appends-nil out,
-    )
 
 pub told_more : (w : Written) (before mid after out told more : Option (List ℕ)) (k : ℕ) (log frame grades : List Voices) (text : List ℕ) → ToldSoFar w before mid out told k log → ReadsFrame w.facts mid after frame → grades ≡ logged (progress w k) 1 frame log → k * w.facts ≤ length log → Appends told more text → text ≡ line_after (progress w (k + 1)) grades → ToldSoFar w before after out more (k + 1) grades
 told_more w None mid after out told more k log frame grades text so read grown inside wrote is = tt

@@ -1,7 +1,10 @@
--- The lines of a take, by the bytes that its frames are read from.
+-- The lines of a take, by the bytes that its frames are read from; and all that is printed for an input.
 use Rattle.std.specs.Prelude.{ℕ, zero, suc, ◌*◌, ◌/◌, min, List, [], ◌++◌, length}
 use Rattle.sheet.specs.Rules.{Written}
+use Rattle.sheet.specs.Loading.{Verdict, accepted, refused, load_result}
+use Rattle.report.specs.Texts.{notice_text}
 use Rattle.watch.specs.Feeding.{progress, take_length}
+use Rattle.bench.specs.Reading.{sheet_in, after_sheet}
 use Rattle.bench.specs.Steps.{line_after}
 use Rattle.bench.specs.Words.{words}
 
@@ -21,3 +24,12 @@ frames_in w bytes = min (length bytes / (2 * w.facts)) (take_length w)
 -- a line after each of them
 abbrev pub take_lines : Written → List ℕ → List ℕ
 take_lines w bytes = lines_of w bytes (frames_in w bytes)
+
+-- what is printed for a verdict on the sheet: the lines of the bytes that follow, or the notice of why it is none
+abbrev pub printed_for : Verdict → List ℕ → List ℕ
+printed_for (accepted w) frames = take_lines w frames
+printed_for (refused number row) frames = notice_text number row
+
+-- what is printed for an input: a sheet, and then its frames
+abbrev pub printed : List ℕ → List ℕ
+printed input = printed_for (load_result (sheet_in input)) (after_sheet input)

@@ -4,7 +4,7 @@
 ghost use Rattle.std.specs.Prelude.{IfSome, OnOk};
 ghost use Rattle.std.specs.Io.KnownBytes.{Appends};
 ghost use Rattle.sheet.specs.Sheets.{sheet_of};
-ghost use Rattle.bench.specs.Lines.{take_lines};
+ghost use Rattle.bench.specs.Lines.{take_lines, printed};
 
 mod frames;
 mod input;
@@ -14,19 +14,12 @@ use crate::frames::next_frame;
 use crate::input::sheet_bytes;
 use crate::step::step;
 use grade::{Span, Voices};
-use report::notice;
-use sheet::fault::Fault;
+use report::notice_bytes;
 use sheet::record::Sheet;
 use std::alloc::Global;
 use std::io::{Read, Write};
 use std::{env, fs, io};
 use watch::record::Watch;
-
-fn refuse(rt: &HostRuntime, fault: Fault) -> io::Result<()> {
-    let mut place = [0; 14];
-    let _ = notice(&mut place, fault.refusal.number(), fault.row);
-    rt.stdout().write_all(&place)
-}
 
 // A line after each frame, before the next is read; no more frames than a take has.
 fn judge_frames<R: Read, W: Write>(
@@ -56,21 +49,25 @@ fn judge_frames<R: Read, W: Write>(
     Ok(())
 }
 
-fn run<R: Read>(rt: &HostRuntime, input: &mut R) -> io::Result<()> {
+// The sheet comes first, and its frames follow.
+fn run<R: Read, W: Write>(heap: Global, input: &mut R, output: &mut W) -> io::Result<()>
+    ensures { OnOk result (IfSome (R.remaining input.old) (λ bytes. Appends (W.contents output.old) (W.contents output.new) (printed bytes))) }
+{
     let mut buffer = [0; 255];
     let bytes = sheet_bytes(input, &mut buffer)?;
     let mut sheet = Sheet::new();
     match sheet.load(bytes) {
-        Ok(()) => judge_frames(rt.alloc(), input, &mut io::writer(rt), &sheet),
-        Err(fault) => refuse(rt, fault),
+        Ok(()) => judge_frames(heap, input, output, &sheet),
+        Err(fault) => output.write_all(&notice_bytes(fault.refusal.number(), fault.row)),
     }
 }
 
 fn main(rt: HostRuntime) -> io::Result<()> {
     let mut words = env::args(&rt)?;
     let _ = words.next();
+    let mut output = io::writer(&rt);
     match words.next() {
-        Some(path) => run(&rt, &mut fs::open(&rt, path.as_str())?),
-        None => run(&rt, &mut rt.stdin()),
+        Some(path) => run(rt.alloc(), &mut fs::open(&rt, path.as_str())?, &mut output),
+        None => run(rt.alloc(), &mut rt.stdin(), &mut output),
     }
 }
