@@ -1,8 +1,10 @@
 // Judges a patch by its sheet as the frames come in, from standard input or from the file that is named.
 #![tactic(auto)]
 
-ghost use Rattle.std.specs.Prelude.{IfSome, OnOk};
+ghost use Rattle.std.specs.Prelude.{◌≡◌, ◌≤◌, IfSome, OnOk};
 ghost use Rattle.std.specs.Io.KnownBytes.{Appends};
+ghost use Rattle.refusal.specs.Numbers.{number_of};
+ghost use Rattle.report.specs.Texts.{notice_text};
 ghost use Rattle.sheet.specs.Sheets.{sheet_of};
 ghost use Rattle.bench.specs.Lines.{take_lines, printed};
 
@@ -14,7 +16,8 @@ use crate::frames::next_frame;
 use crate::input::sheet_bytes;
 use crate::step::step;
 use grade::{Span, Voices};
-use report::notice_bytes;
+use report::notice;
+use sheet::fault::Fault;
 use sheet::record::Sheet;
 use std::alloc::Global;
 use std::io::{Read, Write};
@@ -49,6 +52,16 @@ fn judge_frames<R: Read, W: Write>(
     Ok(())
 }
 
+// The notice of why bytes are no sheet.
+fn notice_of(fault: Fault) -> [u8; 14]
+    requires { fault.row ≤ 99 }
+    ensures { result ≡ notice_text (number_of fault.refusal) fault.row }
+{
+    let mut place = [0; 14];
+    let _ = notice(&mut place, fault.refusal.number(), fault.row);
+    place
+}
+
 // The sheet comes first, and its frames follow.
 fn run<R: Read, W: Write>(heap: Global, input: &mut R, output: &mut W) -> io::Result<()>
     ensures { OnOk result (IfSome (R.remaining input.old) (λ bytes. Appends (W.contents output.old) (W.contents output.new) (printed bytes))) }
@@ -58,7 +71,7 @@ fn run<R: Read, W: Write>(heap: Global, input: &mut R, output: &mut W) -> io::Re
     let mut sheet = Sheet::new();
     match sheet.load(bytes) {
         Ok(()) => judge_frames(heap, input, output, &sheet),
-        Err(fault) => output.write_all(&notice_bytes(fault.refusal.number(), fault.row)),
+        Err(fault) => output.write_all(&notice_of(fault)),
     }
 }
 
