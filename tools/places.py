@@ -28,8 +28,9 @@ LINES = [
     (4, "a conversion by hand", r"256 \* u32::from\("),
     (4, "an equality or an order by hand", r"fn is_exact|first == p && |self\.value <= other\.value|if (?:self|other)\.below\((?:self|other)\)"),
     (4, "printing by hand", r"fn (?:digit_of|two_\w+|three_\w+|four_\w+|state|notice_bytes|line_bytes|task|line_of|sides|head|show_\w+)(?:<[^(]*>)?\("),
-    (6, "an array with a count beside it", r"&(?:mut )?\[\w+; \d+\]"),
-    (6, "an array with a count beside it", r"^\s*(?:pub )?\w+: \[[A-Za-z]\w*; \d+\],|^\s*let mut (?:bytes|frame) = \["),
+    (6, "an array with a count beside it", r"&(?:'\w+ )?(?:mut )?\[\w+; \d+\]"),
+    (6, "an array with a count beside it", r"^\s*(?:pub(?:\(\w+\))? )?\w+: \[[A-Za-z]\w*; \d+\],|^\s*let mut (?:bytes|frame|buffer|rows|lengths) = \["),
+    (6, "a slice with a count beside it", r"\[\w+\], count: usize"),
     (6, "lists side by side", r"^\s*(?:pub )?(?:rows|lengths|below): Vec<"),
     (7, "a switch on which step to run", r"^\s*(?:pub(?:\(\w+\))? )?enum (?:Source|Fold|Ask|Form)\b|fn breaks\("),
 ]

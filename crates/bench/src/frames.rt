@@ -1,5 +1,5 @@
 // Frames of voices, as the engine sends them: a word for each fact, its low byte first.
-ghost use Rattle.std.specs.Prelude.{◌≡◌, ◌*◌, ◌≤◌, length, IfOk, MatchOption};
+ghost use Rattle.std.specs.Prelude.{◌≡◌, ◌*◌, ◌^◌, ◌<◌, length, IfOk, MatchOption};
 ghost use Rattle.bench.specs.Words.{Decoded, decoded};
 ghost use Rattle.bench.specs.Reading.{ReadsFrame, FallsShort};
 
@@ -26,13 +26,13 @@ pub(crate) fn next_frame<R: Read>(
     input: &mut R,
     facts: usize,
 ) -> io::Result<Option<Vec<Voices>>>
-    requires { facts ≤ 16 }
+    requires { 2 * facts < 2 ^ 64 }
     ensures { IfOk result (λ next. MatchOption next
         (FallsShort (2 * facts) (R.remaining input.old) (R.remaining input.new))
         (λ frame. ReadsFrame facts (R.remaining input.old) (R.remaining input.new) frame.items)) }
 {
-    let mut buffer = [0; 32];
-    let bytes = fill(input, &mut buffer[..2 * facts])?;
+    let mut buffer = vec![in heap; 0; 2 * facts]?;
+    let bytes = fill(input, &mut buffer)?;
     if bytes.len() < 2 * facts {
         return Ok(None);
     }

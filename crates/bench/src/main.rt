@@ -1,10 +1,8 @@
 // Judges a patch by its sheet as the frames come in, from standard input or from the file that is named.
 #![tactic(auto)]
 
-ghost use Rattle.std.specs.Prelude.{◌≡◌, ◌≤◌, IfSome, OnOk};
+ghost use Rattle.std.specs.Prelude.{IfSome, OnOk};
 ghost use Rattle.std.specs.Io.KnownBytes.{Appends};
-ghost use Rattle.refusal.specs.Numbers.{number_of};
-ghost use Rattle.report.specs.Texts.{notice_text};
 ghost use Rattle.sheet.specs.Sheets.{sheet_of};
 ghost use Rattle.bench.specs.Lines.{take_lines, printed};
 
@@ -16,8 +14,7 @@ use crate::frames::next_frame;
 use crate::input::sheet_bytes;
 use crate::step::step;
 use grade::{Span, Voices};
-use report::notice;
-use sheet::fault::Fault;
+use listing::notice_of;
 use sheet::record::Sheet;
 use std::alloc::Global;
 use std::io::{Read, Write};
@@ -50,16 +47,6 @@ fn judge_frames<R: Read, W: Write>(
         output.write_all(&text)?;
     }
     Ok(())
-}
-
-// The notice of why bytes are no sheet.
-fn notice_of(fault: Fault) -> [u8; 14]
-    requires { fault.row ≤ 99 }
-    ensures { result ≡ notice_text (number_of fault.refusal) fault.row }
-{
-    let mut place = [0; 14];
-    let _ = notice(&mut place, fault.refusal.number(), fault.row);
-    place
 }
 
 // The sheet comes first, and its frames follow.

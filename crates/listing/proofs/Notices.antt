@@ -1,5 +1,5 @@
 -- A sheet's refusal always fits its notice.
-use Rattle.std.proofs.Common.{◌≡◌, ℕ, ◌≤◌, List, length, Ok, Err, Result, ◌∙◌, arith}
+use Rattle.std.proofs.Common.{◌≡◌, ℕ, ◌<◌, ◌≤◌, List, length, Ok, Err, Result, ◌∙◌, arith}
 use Rattle.refusal.specs.declared.Refusal.{Refusal}
 use Rattle.refusal.specs.declared.Refusal.TheVariants.{Sizes, Kind, Operand, Length, Unnamed, Inner, ShortLog, BrokenStrip, TakeComplete, ShortChart, UnequalStrips, Place}
 use Rattle.refusal.specs.Numbers.{number_of}
@@ -41,3 +41,8 @@ small_number Place = omega arith
 pub just_noticed : (number row : ℕ) (before after : List ℕ) (r : Result ℕ Refusal) → length before ≡ 14 → number ≤ 99 → row ≤ 99 → WrittenInto (notice_text number row) ((14 ≤ length before) × (number ≤ 99) × (row ≤ 99)) before after r → after ≡ notice_text number row
 just_noticed number row before after (Ok n) size low lower w = let fits : length before ≤ 14 = omega arith in w.2 ∙ just_filled (notice_text number row) before fits
 just_noticed number row before after (Err e) size low lower w = absurd (w.0 (omega arith, low, lower))
+
+-- and one of a row that has no notice stays as it was
+pub not_noticed : (number row : ℕ) (before after : List ℕ) (r : Result ℕ Refusal) → 99 < row → WrittenInto (notice_text number row) ((14 ≤ length before) × (number ≤ 99) × (row ≤ 99)) before after r → after ≡ before
+not_noticed number row before after (Ok n) over w = absurd (omega (arith, over, w.0.2))
+not_noticed number row before after (Err e) over w = w.2

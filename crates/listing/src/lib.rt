@@ -1,12 +1,15 @@
 // A sheet in words that a designer can read.
 #![tactic(auto)]
 
-ghost use Rattle.std.specs.Prelude.{◌≡◌, Some, IfOk, string_bytes};
+ghost use Rattle.std.specs.Prelude.{◌≡◌, ◌<◌, ◌≤◌, Some, IfOk, replicate, string_bytes};
+ghost use Rattle.refusal.specs.Numbers.{number_of};
+ghost use Rattle.report.specs.Texts.{notice_text};
 ghost use Rattle.sheet.specs.Loading.{load_result};
 ghost use Rattle.sheet.specs.Sheets.{sheet_of};
 ghost use Rattle.listing.specs.Words.{task_text, row_line, sides_text, listing_text, Tells};
 
 use report::notice;
+use sheet::fault::Fault;
 use sheet::record::Sheet;
 use sheet::row::Row;
 use std::alloc::{AllocError, Global};
@@ -100,6 +103,16 @@ pub fn listing(heap: Global, sheet: &Sheet, sided: bool) -> Result<String, Alloc
     InWords { sheet, sided }.to_string(heap)
 }
 
+// The notice of why bytes are no sheet. A row above 99 has none, and then there are 14 bytes 0.
+pub fn notice_of(fault: Fault) -> [u8; 14]
+    ensures told { fault.row ≤ 99 → result ≡ notice_text (number_of fault.refusal) fault.row }
+    ensures none { 99 < fault.row → result ≡ replicate 14 0 }
+{
+    let mut place = [0; 14];
+    let _ = notice(&mut place, fault.refusal.number(), fault.row);
+    place
+}
+
 // What is to be told of any bytes: the listing of the sheet that they are, or the notice of why they are none.
 pub fn told(heap: Global, bytes: &[u8]) -> Result<Vec<u8>, AllocError>
     ensures { IfOk result (λ v. Tells (load_result bytes.now) v.items) }
@@ -110,10 +123,6 @@ pub fn told(heap: Global, bytes: &[u8]) -> Result<Vec<u8>, AllocError>
             let text = listing(heap, &sheet, sheet.sided())?;
             Vec::from_slice(heap, text.as_bytes())
         }
-        Err(fault) => {
-            let mut place = [0; 14];
-            let _ = notice(&mut place, fault.refusal.number(), fault.row);
-            Vec::from_slice(heap, &place)
-        }
+        Err(fault) => Vec::from_slice(heap, &notice_of(fault)),
     }
 }

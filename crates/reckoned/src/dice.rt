@@ -50,6 +50,7 @@ impl Dice {
     pub(crate) fn word(&mut self) -> u16 {
         (self.roll() & 0xffff) as u16
     }
+
     // So many values.
     pub(crate) fn draw<D: Drawn>(
         &mut self,

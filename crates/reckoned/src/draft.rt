@@ -124,12 +124,11 @@ impl Draft {
     }
 
     fn either(&self, left: u8, right: u8) -> Sketch {
-        let first = self.sketch(left);
-        let second = self.sketch(right);
+        let both = self.both(left, right);
         Sketch {
             task: Task::Either { left, right },
-            length: first.length.max(second.length),
-            fit: first.fit && second.fit && first.length == second.length,
+            fit: both.fit && self.sketch(left).length == self.sketch(right).length,
+            ..both
         }
     }
 

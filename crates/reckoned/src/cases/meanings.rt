@@ -47,6 +47,7 @@ impl Bench {
         };
         same(What::Meaning, 0, settled, reckoned)
     }
+
     // One take, step by step, with the published meaning at its end.
     pub(crate) fn same_answers(&mut self, take: &[bool]) -> Result<(), Stop> {
         let mut stage = Stage::new(self, take)?;

@@ -12,7 +12,7 @@ enum Ask {
 }
 
 impl Ask {
-    fn all_but_if(turned: bool) -> Ask {
+    fn of(turned: bool) -> Ask {
         if turned { Ask::Some } else { Ask::All }
     }
 
@@ -92,8 +92,8 @@ impl<'a, T: Scale> Ends<'a, T> {
     }
 
     fn value(&self, task: Task, turned: bool, start: u16) -> T {
-        let all = Ask::all_but_if(turned);
-        let some = Ask::all_but_if(!turned);
+        let all = Ask::of(turned);
+        let some = Ask::of(!turned);
         match task {
             Task::Always => all.of_none(),
             Task::Hold { duration, fact } => self.held(all, duration, fact, turned, start),

@@ -6,13 +6,12 @@ use crate::record::Watch;
 use grade::Grade;
 use refusal::Refusal;
 
-// The first `count` grades of the strip, written into the log from `from` on.
-fn write<G: Grade>(log: &mut [G], from: usize, strip: &[G], count: usize)
-    requires inside { from + count ≤ length log.old }
-    requires there { count ≤ length strip.now }
-    ensures { log.new ≡ take from log.old ++ (take count strip.now ++ drop (from + count) log.old) }
+// The grades, written into the log from `from` on.
+fn write<G: Grade>(log: &mut [G], from: usize, grades: &[G])
+    requires { from + length grades.now ≤ length log.old }
+    ensures { log.new ≡ take from log.old ++ (grades.now ++ drop (from + length grades.now) log.old) }
 {
-    log[from..from + count].copy_from_slice(&strip[0..count]);
+    log[from..from + grades.len()].copy_from_slice(grades);
 }
 
 impl Watch {
@@ -45,7 +44,7 @@ impl Watch {
     {
         let taken = self.granted(log.len(), strip.len())?;
         let facts = self.sheet.facts() as usize;
-        write(log, self.accepted as usize * facts, strip, taken * facts);
+        write(log, self.accepted as usize * facts, &strip[..taken * facts]);
         self.accepted += taken as u16;
         Ok(taken)
     }

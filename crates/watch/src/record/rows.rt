@@ -61,7 +61,7 @@ impl<'a, G: Grade> Basis<'a, G> {
         &self.cells[first..first + count]
     }
 
-    // Those from a start on.
+    // The cells of a lower row, from a start on.
     fn row_from(&self, row: u8, start: usize) -> &'a [Span<G>]
         requires row { row < self.now.at }
         requires start { start + long (progress_of self.now.watch.now) row ≤ take_length (progress_of self.now.watch.now).sheet }
