@@ -1,6 +1,6 @@
 -- Frames that are read and told, one more at a time.
 use Rattle.std.proofs.Common.{◌≡◌, ℕ, zero, suc, ◌+◌, ◌*◌, ◌/◌, ◌%◌, ◌<◌, ◌≤◌, Ok, Result, MatchOption, List, [], ◌∷◌, ◌++◌, length, get_or, take, drop, Some, None, Option, IfSome, refl, sym, ap, ◌∙◌, subst, append_assoc, append-nil, add-one, add-zero, add-suc, arith, length-take-le, drop_at, take_all}
-use Rattle.std.proofs.lemmas.List.{length-append, length-drop, get_or-drop, get_or_append_left, drop-drop}
+use Rattle.std.proofs.lemmas.List.{length-append, length-drop, get_or-drop, get_or_append_left, drop-drop, drop_all}
 use Rattle.std.proofs.Math.Seq.{take-append-add, take-append_seam}
 use Rattle.std.proofs.Math.Nat.{suc-mul, mul_left_comm, div-eq_of_lt-le, mod_self, div_self, mul_comm, mul-le-mul_right}
 use Rattle.std.proofs.lemmas.Nat.{le-div}
@@ -19,7 +19,7 @@ use Rattle.watch.specs.Feeding.{Progress, progress, take_length, logged, feed_an
 use Rattle.watch.specs.Marking.{mark_refusal}
 use Rattle.std.proofs.lemmas.Bool.Decides.{nat_tests}
 use Rattle.watch.proofs.Takes.{traces_agree}
-use Rattle.bench.specs.Lines.{line_of, lines_of, frames_in, take_lines}
+use Rattle.bench.specs.Lines.{line_of, lines_of, frames_in, take_lines, after_take}
 use Rattle.bench.specs.Reading.{ReadsFrame, FallsShort}
 use Rattle.bench.specs.Steps.{line_after, told, step_answer}
 use Rattle.bench.specs.Words.{word_at, words}
@@ -131,6 +131,27 @@ told_all w (Some bytes) mid after out told k log some within so short =
     let count = div-eq_of_lt-le {k = k} (2 * w.facts) so.0.room few in
     let all : k ≡ frames_in w bytes = omega (arith, count) in
     subst (λ n. Appends out told (lines_of w bytes n)) all so.1
+
+-- what comes after the last frame is left, where the take is complete
+pub left_take : (w : Written) (before after out told : Option (List ℕ)) (k : ℕ) (log : List Voices) → k ≡ take_length w → ToldSoFar w before after out told k log → IfSome before (λ bytes. after ≡ Some (after_take w bytes))
+left_take w None after out told k log full so = tt
+left_take w (Some bytes) after out told k log full so = so.0.left ∙ ap (λ n. Some (drop (n * (2 * w.facts)) bytes)) full
+
+-- and where no more whole frame comes, nothing is
+pub left_all : (w : Written) (before mid after out told : Option (List ℕ)) (k : ℕ) (log : List Voices) → k < take_length w → ToldSoFar w before mid out told k log → FallsShort (2 * w.facts) mid after → IfSome before (λ bytes. after ≡ Some (after_take w bytes))
+left_all w None mid after out told k log early so short = tt
+left_all w (Some bytes) mid after out told k log early so short =
+    let got = consumed_known _ after short.bytes (subst (λ m. Consumes m after short.bytes) so.0.left short.taken) in
+    let none = subst IsAtEnd got.1 short.ended in
+    let left = ap length got.2 ∙ length-append short.bytes got.0 ∙ ap (λ l. length short.bytes + length l) none in
+    let few : length bytes < (k + 1) * (2 * w.facts) = omega (arith, next_multiple k (2 * w.facts), length-drop (k * (2 * w.facts)) bytes, left, short.short) in
+    let within : k + 1 ≤ take_length w = omega arith in
+    let most = mul-le-mul_right (2 * w.facts) within in
+    got.1 ∙ ap Some (none ∙ sym (drop_all (take_length w * (2 * w.facts)) bytes (omega (arith, few, most))))
+
+pub left_at : (w : Written) (before now after : Option (List ℕ)) → now ≡ after → IfSome before (λ bytes. after ≡ Some (after_take w bytes)) → IfSome before (λ bytes. now ≡ Some (after_take w bytes))
+left_at w None now after same is = tt
+left_at w (Some bytes) now after same is = same ∙ is
 
 -- what a read of a frame says of one that came, and of none
 pub read_some : {F : Type 0} (items : F → List Voices) (facts f : ℕ) (before after : Option (List ℕ)) (next : Option F) (frame : F) → facts ≡ f → next ≡ Some frame → MatchOption next (FallsShort (2 * facts) before after) (λ x. ReadsFrame facts before after (items x)) → ReadsFrame f before after (items frame)

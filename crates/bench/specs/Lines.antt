@@ -1,5 +1,5 @@
 -- The lines of a take, by the bytes that its frames are read from; and all that is printed for an input.
-use Rattle.std.specs.Prelude.{ℕ, zero, suc, ◌*◌, ◌/◌, min, List, [], ◌++◌, length}
+use Rattle.std.specs.Prelude.{ℕ, zero, suc, ◌*◌, ◌/◌, min, List, [], ◌++◌, length, drop}
 use Rattle.sheet.specs.Rules.{Written}
 use Rattle.sheet.specs.Loading.{Verdict, accepted, refused, load_result}
 use Rattle.report.specs.Texts.{notice_text}
@@ -24,6 +24,10 @@ frames_in w bytes = min (length bytes / (2 * w.facts)) (take_length w)
 -- a line after each of them
 abbrev pub take_lines : Written → List ℕ → List ℕ
 take_lines w bytes = lines_of w bytes (frames_in w bytes)
+
+-- what a take leaves of the bytes: all that comes after its last frame
+abbrev pub after_take : Written → List ℕ → List ℕ
+after_take w bytes = drop (take_length w * (2 * w.facts)) bytes
 
 -- what is printed for a verdict on the sheet: the lines of the bytes that follow, or the notice of why it is none
 abbrev pub printed_for : Verdict → List ℕ → List ℕ

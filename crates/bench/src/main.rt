@@ -1,10 +1,10 @@
 // Judges a patch by its sheet as the frames come in, from standard input or from the file that is named.
 #![tactic(auto)]
 
-ghost use Rattle.std.specs.Prelude.{IfSome, OnOk};
+ghost use Rattle.std.specs.Prelude.{◌≡◌, Some, IfSome, OnOk};
 ghost use Rattle.std.specs.Io.KnownBytes.{Appends};
 ghost use Rattle.sheet.specs.Sheets.{sheet_of};
-ghost use Rattle.bench.specs.Lines.{take_lines, printed};
+ghost use Rattle.bench.specs.Lines.{take_lines, after_take, printed};
 
 mod frames;
 mod input;
@@ -28,7 +28,8 @@ fn judge_frames<R: Read, W: Write>(
     output: &mut W,
     sheet: &Sheet,
 ) -> io::Result<()>
-    ensures { OnOk result (IfSome (R.remaining input.old) (λ frames. Appends (W.contents output.old) (W.contents output.new) (take_lines (sheet_of sheet.now) frames))) }
+    ensures lines { OnOk result (IfSome (R.remaining input.old) (λ frames. Appends (W.contents output.old) (W.contents output.new) (take_lines (sheet_of sheet.now) frames))) }
+    ensures left { OnOk result (IfSome (R.remaining input.old) (λ frames. R.remaining input.new ≡ Some (after_take (sheet_of sheet.now) frames))) }
 {
     let facts = sheet.facts() as usize;
     let frames = sheet.length() as usize + 1;
