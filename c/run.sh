@@ -1,6 +1,6 @@
 #!/bin/sh
-# Builds the library and the C program, runs it on the sheets that are built in and on the shipped cases,
-# and compares the answers with the expected ones. A library that is there already can be given: c/run.sh LIBRARY
+# Builds the library and the C program, sees that the library needs no name from outside, runs the program on the sheets that are
+# built in and on the shipped cases, and compares the answers with the expected ones. A library that is there already can be given: c/run.sh LIBRARY
 set -eu
 cd "$(dirname "$0")/.."
 
@@ -11,6 +11,12 @@ else
     mkdir -p target/staticlib
     library=target/staticlib/libsheet.a
     cp crates/sheet_c/out/libsheet_c.a "$library"
+fi
+
+# a program without a C library can link it: it needs no name from outside
+if nm -u "$library" | grep ' U '; then
+    echo "the library needs these names from outside"
+    exit 1
 fi
 
 cases=crates/check_cases

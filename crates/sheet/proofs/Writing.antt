@@ -65,13 +65,13 @@ module _ (rows : List Row) where
       ap (λ m. get_or (map kind_of rows ++ flat_map operands_of rows) m 0) (sym place) ∙ written_operand k i row third ∙ sym (operands-are k i row third) ∙ ap (λ m. get_or rest m 0) place)
       (cases_lt n (length rows)))
 
-same_true : (xs ys : List ℕ) → same xs ys ≡ true → xs ≡ ys
+pub same_true : (xs ys : List ℕ) → same xs ys ≡ true → xs ≡ ys
 same_true [] [] h = refl
 same_true [] (y ∷ ys) h = cc
 same_true (x ∷ xs) [] h = cc
 same_true (x ∷ xs) (y ∷ ys) h = grind (arith, nat_tests, same_true xs ys)
 
-true_same : (xs : List ℕ) → same xs xs ≡ true
+pub true_same : (xs : List ℕ) → same xs xs ≡ true
 true_same [] = refl
 true_same (x ∷ xs) = grind (arith, nat_tests, true_same xs)
 

@@ -7,11 +7,13 @@ ghost use Rattle.sheet.specs.Rules.{all_under, length_of, row_at};
 use crate::placed::Placed;
 use crate::row::Row;
 
+// `lengths` stands before `rows`, so that a draft is copied in parts of at most 128 bytes: a longer one would be left to `memcpy`,
+// which `check` would then need from whoever links it to C.
 #[derive(Drop)]
 pub(crate) struct Draft {
+    pub(crate) lengths: [u8; 32],
     pub(crate) count: u8,
     pub(crate) rows: [Row; 32],
-    pub(crate) lengths: [u8; 32],
     ghost sized: { length rows ≡ 32 },
     ghost spanned: { length lengths ≡ 32 },
     ghost some: { 1 ≤ count },

@@ -7,10 +7,12 @@ ghost use Rattle.sheet.specs.Loading.{passes};
 
 use crate::row::Row;
 
+// `at` stands before `row`, so that a row which was just written is read back in one piece: the other way round it is read
+// across two writes, and reading a sheet takes up to twice the time.
 #[derive(Clone, Copy)]
 pub(crate) struct Placed {
-    pub(crate) row: Row,
     pub(crate) at: u8,
+    pub(crate) row: Row,
     ghost among: { at < 32 },
     ghost names_lower: { all_under at (named_by row) ≡ true },
     ghost reads_few: { all_under 16 (facts_of row) ≡ true },

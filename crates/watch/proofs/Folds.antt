@@ -18,6 +18,14 @@ module _ {V : Type 0} (l : Lattice V) where
       (joins a b (suc s) (suc s') n (λ i lt. ap a (omega arith) ∙ same (suc i) (omega arith) ∙ ap b (omega arith)))
 
 module _ {V : Type 0} (none : V) (combine : V → V → V) where
+  -- it rests on the values in the window
+  pub over_same : (a b : ℕ → V) (s s' n : ℕ) → ((i : ℕ) → i < n → a (s + i) ≡ b (s' + i)) → over none combine a s n ≡ over none combine b s' n
+  over_same a b s s' zero same = refl
+  over_same a b s s' (suc n) same =
+      ap₂ combine
+      (ap a (sym (add-zero s)) ∙ same 0 (omega arith) ∙ ap b (add-zero s'))
+      (over_same a b (suc s) (suc s') n (λ i lt. ap a (omega arith) ∙ same (suc i) (omega arith) ∙ ap b (omega arith)))
+
   -- one value more before it
   pub over_more : (at : ℕ → V) (start j end : ℕ) → j < end → combine (at (start + j)) (over none combine at (start + (j + 1)) (end - (j + 1))) ≡ over none combine at (start + j) (end - j)
   over_more at start j end less =
