@@ -10,7 +10,7 @@ use std::io::Read;
 
 // The words of a frame, from its bytes.
 pub fn decode(bytes: &[u8], frame: &mut [Voices])
-    requires { length bytes.now ≡ 2 * length frame.old }
+    requires { 2 * length frame.old ≤ length bytes.now }
     ensures words { Decoded bytes.now frame.new (length frame.old) }
     ensures whole { frame.new ≡ decoded bytes.now frame.old (length frame.old) }
 {

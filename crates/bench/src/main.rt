@@ -4,7 +4,7 @@
 ghost use Rattle.std.specs.Prelude.{◌≡◌, Some, IfSome, OnOk};
 ghost use Rattle.std.specs.Io.KnownBytes.{Appends};
 ghost use Rattle.sheet.specs.Sheets.{sheet_of};
-ghost use Rattle.bench.specs.Lines.{take_lines, after_take, printed};
+ghost use Rattle.bench.specs.Lines.{take_lines, after_take, printed, left_of};
 
 mod frames;
 mod input;
@@ -53,7 +53,8 @@ fn judge_frames<R: Read, W: Write>(
 
 // The sheet comes first, and its frames follow.
 fn run<R: Read, W: Write>(heap: Global, input: &mut R, output: &mut W) -> io::Result<()>
-    ensures { OnOk result (IfSome (R.remaining input.old) (λ bytes. Appends (W.contents output.old) (W.contents output.new) (printed bytes))) }
+    ensures printed { OnOk result (IfSome (R.remaining input.old) (λ bytes. Appends (W.contents output.old) (W.contents output.new) (printed bytes))) }
+    ensures left { OnOk result (IfSome (R.remaining input.old) (λ bytes. R.remaining input.new ≡ Some (left_of bytes))) }
 {
     let mut buffer = [0; 255];
     let bytes = sheet_bytes(input, &mut buffer)?;
