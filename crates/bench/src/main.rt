@@ -38,9 +38,9 @@ fn judge_frames<R: Read, W: Write>(
     let log = grades.as_mut_slice();
     let chart = spans.as_mut_slice();
     let mut watch = Watch::start(sheet);
-    let mut place = [Voices::new(0); 16];
+    let mut frame = [Voices::new(0); 16];
     for _accepted in 0..frames {
-        let Some(frame) = next_frame(input, &mut place[..facts])? else {
+        let Some(frame) = next_frame(input, &mut frame[..facts])? else {
             break;
         };
         let Ok(text) = step(&mut watch, log, chart, frame) else {

@@ -11,7 +11,7 @@ loop-accepted-preserved g c =
     let w = sheet_of c.args.sheet.now in
     let so = c.loop-accepted.invariant in
     let k = c.loop-accepted._accepted in
-    let size : length (take c.facts-facts.result c.loop-accepted.place) ≡ w.facts = length-take-le c.facts-facts.result c.loop-accepted.place (omega arith) ∙ c.facts-facts.ensures in
+    let size : length (take c.facts-facts.result c.loop-accepted.frame) ≡ w.facts = length-take-le c.facts-facts.result c.loop-accepted.frame (omega arith) ∙ c.facts-facts.ensures in
     let log = c.loop-accepted.log in
     let frame = c.in-Some.frame.now in
     let early : k < take_length w = omega (arith, c.length.ensures, c.loop-accepted-test.true) in
@@ -34,12 +34,12 @@ returns-clause-lines g c =
     let some : 1 ≤ w.facts = c.rows.ensures.keeps.some_fact in
     elim c.loop-accepted-test.branch [
       | else-loop-accepted-test x ↦ told_take w _ _ _ _ k _ some (omega (arith, c.length.ensures)) so.told
-      | then-loop-accepted-test+in_ok-frame+in_default x ↦ told_all w _ _ (g.R.Read.remaining x.next_frame.new.input) _ _ k _ some (omega (arith, c.length.ensures)) so.told (read_none _ w.facts _ _ x.in_ok-frame.field-0 (length-take-le c.facts-facts.result c.loop-accepted.place (omega arith) ∙ c.facts-facts.ensures) x.in_default.is x.in_ok-frame.ensures)
+      | then-loop-accepted-test+in_ok-frame+in_default x ↦ told_all w _ _ (g.R.Read.remaining x.next_frame.new.input) _ _ k _ some (omega (arith, c.length.ensures)) so.told (read_none _ w.facts _ _ x.in_ok-frame.field-0 (length-take-le c.facts-facts.result c.loop-accepted.frame (omega arith) ∙ c.facts-facts.ensures) x.in_default.is x.in_ok-frame.ensures)
       | then-loop-accepted-test+in_ok-frame+in-Some+in_default-step x ↦
           let log = c.loop-accepted.log in
           let frame = x.in-Some.frame.now in
           let early : k < take_length w = omega (arith, c.length.ensures, x.loop-accepted-test.true) in
-          let size : length (take c.facts-facts.result c.loop-accepted.place) ≡ w.facts = length-take-le c.facts-facts.result c.loop-accepted.place (omega arith) ∙ c.facts-facts.ensures in
+          let size : length (take c.facts-facts.result c.loop-accepted.frame) ≡ w.facts = length-take-le c.facts-facts.result c.loop-accepted.frame (omega arith) ∙ c.facts-facts.ensures in
           let read = read_some _ w.facts (g.R.Read.remaining c.loop-accepted.input) (g.R.Read.remaining x.next_frame.new.input) x.in_ok-frame.field-0 x.in-Some.frame size x.in-Some.is x.in_ok-frame.ensures in
           let one = feed_one w k (length log) (length frame) some so.log (frame_size w _ _ _ read) early in
           let grown = logged_one w k _ log frame x.step.new.log so.watch one x.step.ensures.log in
@@ -56,12 +56,12 @@ returns-clause-left g c =
     let some : 1 ≤ w.facts = c.rows.ensures.keeps.some_fact in
     elim c.loop-accepted-test.branch [
       | else-loop-accepted-test x ↦ left_at w _ _ _ (ap g.R.Read.remaining x.input-is) (left_take w _ _ _ _ k _ (omega (arith, c.length.ensures)) so.told)
-      | then-loop-accepted-test+in_ok-frame+in_default x ↦ left_at w _ _ _ (ap g.R.Read.remaining x.input-is) (left_all w _ _ (g.R.Read.remaining x.next_frame.new.input) _ _ k _ (omega (arith, c.length.ensures, x.loop-accepted-test.true)) so.told (read_none _ w.facts _ _ x.in_ok-frame.field-0 (length-take-le c.facts-facts.result c.loop-accepted.place (omega arith) ∙ c.facts-facts.ensures) x.in_default.is x.in_ok-frame.ensures))
+      | then-loop-accepted-test+in_ok-frame+in_default x ↦ left_at w _ _ _ (ap g.R.Read.remaining x.input-is) (left_all w _ _ (g.R.Read.remaining x.next_frame.new.input) _ _ k _ (omega (arith, c.length.ensures, x.loop-accepted-test.true)) so.told (read_none _ w.facts _ _ x.in_ok-frame.field-0 (length-take-le c.facts-facts.result c.loop-accepted.frame (omega arith) ∙ c.facts-facts.ensures) x.in_default.is x.in_ok-frame.ensures))
       | then-loop-accepted-test+in_ok-frame+in-Some+in_default-step x ↦
           let log = c.loop-accepted.log in
           let frame = x.in-Some.frame.now in
           let early : k < take_length w = omega (arith, c.length.ensures, x.loop-accepted-test.true) in
-          let size : length (take c.facts-facts.result c.loop-accepted.place) ≡ w.facts = length-take-le c.facts-facts.result c.loop-accepted.place (omega arith) ∙ c.facts-facts.ensures in
+          let size : length (take c.facts-facts.result c.loop-accepted.frame) ≡ w.facts = length-take-le c.facts-facts.result c.loop-accepted.frame (omega arith) ∙ c.facts-facts.ensures in
           let read = read_some _ w.facts (g.R.Read.remaining c.loop-accepted.input) (g.R.Read.remaining x.next_frame.new.input) x.in_ok-frame.field-0 x.in-Some.frame size x.in-Some.is x.in_ok-frame.ensures in
           let one = feed_one w k (length log) (length frame) some so.log (frame_size w _ _ _ read) early in
           let grown = logged_one w k _ log frame x.step.new.log so.watch one x.step.ensures.log in
