@@ -6,6 +6,7 @@ use Rattle.std.proofs.Math.Nat.{suc-mul, mul_left_comm, div-eq_of_lt-le, mod_sel
 use Rattle.std.proofs.lemmas.Nat.{le-div}
 use Rattle.std.proofs.KnownBytes.{Appends-trans}
 use Rattle.std.specs.Io.KnownBytes.{Appends, Consumes, IsAtEnd}
+use Rattle.std.specs.Borrow.{Bor}
 use Rattle.grade.specs.Spans.{spans}
 use Rattle.grade.specs.Voices.{voices, word}
 use Rattle.grade.specs.declared.voices.Voices.{Voices}
@@ -154,13 +155,13 @@ left_at w None now after same is = tt
 left_at w (Some bytes) now after same is = same ∙ is
 
 -- what a read of a frame says of one that came, and of none
-pub read_some : {F : Type 0} (items : F → List Voices) (facts f : ℕ) (before after : Option (List ℕ)) (next : Option F) (frame : F) → facts ≡ f → next ≡ Some frame → MatchOption next (FallsShort (2 * facts) before after) (λ x. ReadsFrame facts before after (items x)) → ReadsFrame f before after (items frame)
-read_some items facts f before after next frame same is read =
-    subst (λ n. ReadsFrame n before after (items frame)) same (subst (λ o. MatchOption o (FallsShort (2 * facts) before after) (λ x. ReadsFrame facts before after (items x))) is read)
+pub read_some : (facts f : ℕ) (before after : Option (List ℕ)) (next : Option (Bor (List Voices))) (frame : Bor (List Voices)) → facts ≡ f → next ≡ Some frame → MatchOption next (FallsShort (2 * facts) before after) (λ x. ReadsFrame facts before after x.now) → ReadsFrame f before after frame.now
+read_some facts f before after next frame same is read =
+    subst (λ n. ReadsFrame n before after frame.now) same (subst (λ o. MatchOption o (FallsShort (2 * facts) before after) (λ x. ReadsFrame facts before after x.now)) is read)
 
-pub read_none : {F : Type 0} (items : F → List Voices) (facts f : ℕ) (before after : Option (List ℕ)) (next : Option F) → facts ≡ f → next ≡ None → MatchOption next (FallsShort (2 * facts) before after) (λ x. ReadsFrame facts before after (items x)) → FallsShort (2 * f) before after
-read_none items facts f before after next same is read =
-    subst (λ n. FallsShort (2 * n) before after) same (subst (λ o. MatchOption o (FallsShort (2 * facts) before after) (λ x. ReadsFrame facts before after (items x))) is read)
+pub read_none : (facts f : ℕ) (before after : Option (List ℕ)) (next : Option (Bor (List Voices))) → facts ≡ f → next ≡ None → MatchOption next (FallsShort (2 * facts) before after) (λ x. ReadsFrame facts before after x.now) → FallsShort (2 * f) before after
+read_none facts f before after next same is read =
+    subst (λ n. FallsShort (2 * n) before after) same (subst (λ o. MatchOption o (FallsShort (2 * facts) before after) (λ x. ReadsFrame facts before after x.now)) is read)
 
 pub frame_size : (w : Written) (before after : Option (List ℕ)) (frame : List Voices) → ReadsFrame w.facts before after frame → length frame ≡ w.facts
 frame_size w before after frame read = ap length (read.whole ∙ decoded_alone read.bytes w.facts) ∙ words_size read.bytes w.facts

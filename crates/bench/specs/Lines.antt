@@ -37,3 +37,11 @@ printed_for (refused number row) frames = notice_text number row
 -- what is printed for an input: a sheet, and then its frames
 abbrev pub printed : List ℕ → List ℕ
 printed input = printed_for (load_result (sheet_in input)) (after_sheet input)
+
+-- what is left of the input after that: for a sheet all that comes after the take's last frame, for none all that comes after its bytes
+abbrev pub left_for : Verdict → List ℕ → List ℕ
+left_for (accepted w) frames = after_take w frames
+left_for (refused number row) frames = frames
+
+abbrev pub left_of : List ℕ → List ℕ
+left_of input = left_for (load_result (sheet_in input)) (after_sheet input)

@@ -1,17 +1,16 @@
 // Frames of voices, as the engine sends them: a word for each fact, its low byte first.
-ghost use Rattle.std.specs.Prelude.{◌≡◌, ◌*◌, ◌^◌, ◌<◌, length, IfOk, MatchOption};
+ghost use Rattle.std.specs.Prelude.{◌≡◌, ◌*◌, ◌≤◌, length, IfOk, MatchOption};
 ghost use Rattle.bench.specs.Words.{Decoded, decoded};
 ghost use Rattle.bench.specs.Reading.{ReadsFrame, FallsShort};
 
 use crate::input::fill;
 use grade::Voices;
-use std::alloc::Global;
 use std::io;
 use std::io::Read;
 
 // The words of a frame, from its bytes.
 pub fn decode(bytes: &[u8], frame: &mut [Voices])
-    requires { length bytes.now ≡ 2 * length frame.old }
+    requires { 2 * length frame.old ≤ length bytes.now }
     ensures words { Decoded bytes.now frame.new (length frame.old) }
     ensures whole { frame.new ≡ decoded bytes.now frame.old (length frame.old) }
 {
@@ -20,23 +19,21 @@ pub fn decode(bytes: &[u8], frame: &mut [Voices])
     }
 }
 
-// The next frame of so many facts, unless the input ends before it is whole.
-pub(crate) fn next_frame<R: Read>(
-    heap: Global,
+// The next frame, as long as the place that is lent, unless the input ends before it is whole.
+pub(crate) fn next_frame<'a, R: Read>(
     input: &mut R,
-    facts: usize,
-) -> io::Result<Option<Vec<Voices>>>
-    requires { 2 * facts < 2 ^ 64 }
+    place: &'a mut [Voices],
+) -> io::Result<Option<&'a [Voices]>>
+    requires { length place.old ≤ 16 }
     ensures { IfOk result (λ next. MatchOption next
-        (FallsShort (2 * facts) (R.remaining input.old) (R.remaining input.new))
-        (λ frame. ReadsFrame facts (R.remaining input.old) (R.remaining input.new) frame.items)) }
+        (FallsShort (2 * length place.old) (R.remaining input.old) (R.remaining input.new))
+        (λ frame. ReadsFrame (length place.old) (R.remaining input.old) (R.remaining input.new) frame.now)) }
 {
-    let mut buffer = vec![in heap; 0; 2 * facts]?;
-    let bytes = fill(input, &mut buffer)?;
-    if bytes.len() < 2 * facts {
+    let mut buffer = [0; 32];
+    let bytes = fill(input, &mut buffer[..2 * place.len()])?;
+    if bytes.len() < 2 * place.len() {
         return Ok(None);
     }
-    let mut frame = vec![in heap; Voices::new(0); facts]?;
-    decode(bytes, &mut frame);
-    Ok(Some(frame))
+    decode(bytes, place);
+    Ok(Some(place))
 }

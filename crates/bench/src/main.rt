@@ -4,7 +4,7 @@
 ghost use Rattle.std.specs.Prelude.{◌≡◌, Some, IfSome, OnOk};
 ghost use Rattle.std.specs.Io.KnownBytes.{Appends};
 ghost use Rattle.sheet.specs.Sheets.{sheet_of};
-ghost use Rattle.bench.specs.Lines.{take_lines, after_take, printed};
+ghost use Rattle.bench.specs.Lines.{take_lines, after_take, printed, left_of};
 
 mod frames;
 mod input;
@@ -38,11 +38,12 @@ fn judge_frames<R: Read, W: Write>(
     let log = grades.as_mut_slice();
     let chart = spans.as_mut_slice();
     let mut watch = Watch::start(sheet);
+    let mut frame = [Voices::new(0); 16];
     for _accepted in 0..frames {
-        let Some(frame) = next_frame(heap, input, facts)? else {
+        let Some(frame) = next_frame(input, &mut frame[..facts])? else {
             break;
         };
-        let Ok(text) = step(&mut watch, log, chart, &frame) else {
+        let Ok(text) = step(&mut watch, log, chart, frame) else {
             break;
         };
         output.write_all(&text)?;
@@ -52,7 +53,8 @@ fn judge_frames<R: Read, W: Write>(
 
 // The sheet comes first, and its frames follow.
 fn run<R: Read, W: Write>(heap: Global, input: &mut R, output: &mut W) -> io::Result<()>
-    ensures { OnOk result (IfSome (R.remaining input.old) (λ bytes. Appends (W.contents output.old) (W.contents output.new) (printed bytes))) }
+    ensures printed { OnOk result (IfSome (R.remaining input.old) (λ bytes. Appends (W.contents output.old) (W.contents output.new) (printed bytes))) }
+    ensures left { OnOk result (IfSome (R.remaining input.old) (λ bytes. R.remaining input.new ≡ Some (left_of bytes))) }
 {
     let mut buffer = [0; 255];
     let bytes = sheet_bytes(input, &mut buffer)?;
