@@ -14,7 +14,8 @@ else
 fi
 
 # a program without a C library can link it: it needs no name from outside
-if nm -u "$library" | grep ' U '; then
+needed=$(nm -u "$library")
+if echo "$needed" | grep ' U '; then
     echo "the library needs these names from outside"
     exit 1
 fi
